@@ -1,0 +1,68 @@
+-- "For an answer that is an enum, a definition gives this paper's number and values for each case."
+use Rattle.model.specs.Answers.{Verdict, refused, Answer, refusal, admitted, judged, pass, tree, ran, written}
+use Rattle.model.specs.Running.{mostCalls}
+use Rattle.answers.specs.declared.ContractFault.{ContractFault}
+use Rattle.answers.specs.declared.ContractFault.the-variants as contract
+use Rattle.answers.specs.declared.DocumentFault.{DocumentFault}
+use Rattle.answers.specs.declared.DocumentFault.the-variants as document
+use Rattle.answers.specs.declared.AdmissionAnswer.{AdmissionAnswer}
+use Rattle.answers.specs.declared.AdmissionAnswer.the-variants as admission
+use Rattle.answers.specs.declared.JudgingAnswer.{JudgingAnswer}
+use Rattle.answers.specs.declared.JudgingAnswer.the-variants as judging
+use Rattle.answers.specs.declared.CheckingAnswer.{CheckingAnswer}
+use Rattle.answers.specs.declared.CheckingAnswer.the-variants as checking
+use Rattle.answers.specs.declared.RunningAnswer.{RunningAnswer}
+use Rattle.answers.specs.declared.RunningAnswer.the-variants as running
+use Rattle.answers.specs.declared.WritingAnswer.{WritingAnswer}
+use Rattle.answers.specs.declared.WritingAnswer.the-variants as writing
+
+-- refusals 1 to 8
+abbrev pub contractRefusal : ContractFault → Answer
+contractRefusal (contract.Size place) = refusal 1 place
+contractRefusal (contract.Length place) = refusal 2 place
+contractRefusal (contract.InputRow row) = refusal 3 row
+contractRefusal (contract.Entry index) = refusal 4 index
+contractRefusal (contract.Count procedure) = refusal 5 procedure
+contractRefusal (contract.Node node) = refusal 6 node
+contractRefusal (contract.Rule rule) = refusal 7 rule
+contractRefusal (contract.Facts total) = refusal 8 total
+
+-- refusals 11 and 12
+abbrev pub documentRefusal : DocumentFault → Answer
+documentRefusal (document.Length numbers) = refusal 11 numbers
+documentRefusal (document.Number place) = refusal 12 place
+
+abbrev pub admissionAnswer : AdmissionAnswer → Answer
+admissionAnswer admission.Admitted = admitted
+admissionAnswer (admission.Refused fault) = contractRefusal fault
+
+abbrev pub judgingAnswer : JudgingAnswer → Answer
+judgingAnswer (judging.Contract fault) = contractRefusal fault
+judgingAnswer judging.Buffer = refusal 9 0
+judgingAnswer (judging.Document fault) = documentRefusal fault
+judgingAnswer judging.Outside = judged 0
+judgingAnswer judging.Sound = judged 1
+judgingAnswer judging.Breaking = judged 2
+
+abbrev pub checkingAnswer : CheckingAnswer → Answer
+checkingAnswer (checking.Contract fault) = contractRefusal fault
+checkingAnswer (checking.Buffer place) = refusal 9 place
+checkingAnswer (checking.Pass count) = pass count
+checkingAnswer (checking.Tree row) = tree row
+checkingAnswer (checking.Stopped limit) = refusal 10 limit
+
+abbrev pub runningAnswer : RunningAnswer → Answer
+runningAnswer (running.Contract fault) = contractRefusal fault
+runningAnswer running.Buffer = refusal 9 0
+runningAnswer (running.Document fault) = documentRefusal fault
+runningAnswer (running.NoRule procedure) = refusal 13 (procedure .0)
+runningAnswer (running.NoRow rows) = refusal 14 rows
+runningAnswer running.TooManyCalls = refusal 15 mostCalls
+runningAnswer (running.Ran root used) = ran root used
+
+abbrev pub writingAnswer : WritingAnswer → Answer
+writingAnswer writing.Rows = refusal 16 0
+writingAnswer (writing.Row row) = refusal 17 row
+writingAnswer (writing.Number row) = refusal 18 row
+writingAnswer (writing.Room numbers) = refusal 19 numbers
+writingAnswer (writing.Written count) = written count

@@ -1,0 +1,94 @@
+// The answers of the five operations, as enums of meaningful cases. specs/Numbers.antt gives document 01's number and
+// values for each case; promises use it.
+use tables::Procedure;
+
+// Why a contract is not admitted, with the place.
+pub enum ContractFault {
+    // Symbols, input states, output states or procedures are too few or too many.
+    Size(usize),
+    // A table's length.
+    Length(usize),
+    // A bad input row.
+    InputRow(usize),
+    // A mark above 1, or an output entry that is no state.
+    Entry(usize),
+    // A bad parameter count.
+    Count(usize),
+    // A bad expression node.
+    Node(usize),
+    // A bad rule.
+    Rule(usize),
+    // More facts than a kind has room for: how many there are.
+    Facts(usize),
+}
+
+// What admission says.
+pub enum AdmissionAnswer {
+    Admitted,
+    Refused(ContractFault),
+}
+
+// Why a document is none, with the place.
+pub enum DocumentFault {
+    // How many numbers there are, where these are too many.
+    Length(usize),
+    // The first number that is no symbol or stands after the tree, or the end of a tree cut short.
+    Number(usize),
+}
+
+// What judging says.
+pub enum JudgingAnswer {
+    Contract(ContractFault),
+    // The kind buffer is not five words.
+    Buffer,
+    Document(DocumentFault),
+    // Not of the input type.
+    Outside,
+    // Of the input type, with no output outside the output type.
+    Sound,
+    // Of the input type, with an output outside the output type.
+    Breaking,
+}
+
+// What checking says.
+pub enum CheckingAnswer {
+    Contract(ContractFault),
+    // The limit, the row buffer or the word buffer has a wrong size.
+    Buffer(usize),
+    // No document breaks the contract: how many kinds there are.
+    Pass(usize),
+    // The tree of this row breaks the contract.
+    Tree(usize),
+    // There are more kinds than the limit: the limit.
+    Stopped(usize),
+}
+
+// What running says.
+pub enum RunningAnswer {
+    Contract(ContractFault),
+    // The row buffer's length.
+    Buffer,
+    Document(DocumentFault),
+    // The procedure has no rule where it is called.
+    NoRule(Procedure),
+    // No row is free: how many there are.
+    NoRow(usize),
+    // More calls than are made.
+    TooManyCalls,
+    // The root row, and how many rows are used.
+    Ran(usize, usize),
+}
+
+// What writing out says.
+pub enum WritingAnswer {
+    // The rows' length.
+    Rows,
+    // A bad row.
+    Row(usize),
+    // There is no row of this number.
+    Number(usize),
+    // The tree does not fit: the buffer's length.
+    Room(usize),
+    // How many numbers are written.
+    Written(usize),
+}

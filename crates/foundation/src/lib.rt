@@ -1,0 +1,1 @@
+// The mathematics that every other crate cites: tests, searches and words. It has no code: see specs/.

@@ -1,0 +1,2 @@
+-- Laws of the model's definitions, a file for each of its files, and what admission establishes.
+pub mod Established

@@ -1,0 +1,155 @@
+-- Admission: the refusal's number and place as a function of whatever was handed in.
+use mathlib.Core.Bool.{Bool, true, false, _&&_, _||_, not}
+use mathlib.Core.List.{List, [], _∷_}
+use Prim.Native.Nat.{ℕ, _+_, _*_, _-_, _%_}
+use lib.Dec.{eqb, ltb, leb}
+use lib.ListN.{length, getD}
+use Rattle.foundation.specs.Tests.{choose}
+use Rattle.model.specs.Tables.{Contract, InputRow, inputRow, inputRowCount, Node, nodeAt, nodeCount, Rule, ruleAt, ruleCount, countOf, markAt}
+use Rattle.model.specs.Expressions.{expression, greatestParameter, holdsCall}
+use Rattle.model.specs.Facts.{factTotal}
+use Rattle.model.specs.Answers.{Verdict, fine, refused, refuseIf, refuseFirst, _then_, Answer, admitted, refusal, given}
+
+abbrev pub outside : (least most : ℕ) → ℕ → Bool
+outside least most n = ltb n least || ltb most n
+
+-- "Symbols S, 1 to 16. Input states I, 1 to 32. Output states O, 1 to 4. Procedures P, 1 to 16"
+abbrev pub sizeWrong : (S I O P : ℕ) → ℕ → Bool
+sizeWrong S I O P place = getD (outside 1 16 S ∷ outside 1 32 I ∷ outside 1 4 O ∷ outside 1 16 P ∷ []) place false
+
+-- "a length that is not a whole number of tuples, or is over the most named here, is a wrong length"
+abbrev pub tuplesWrong : (width most : ℕ) → ℕ → Bool
+tuplesWrong width most n = not (eqb (n % width) 0) || ltb (width * most) n
+
+-- "Length 1 + (S − 1) × O × O."
+abbrev pub tableLength : (S O : ℕ) → ℕ
+tableLength S O = 1 + (S - 1) * O * O
+
+-- "a table's length (place 0 to 5: input rows, input marks, output table, output marks, nodes, rules)"
+abbrev pub lengthWrong : (S I O : ℕ) (inputRows inputMarks outputTable outputMarks nodes rules : ℕ) → ℕ → Bool
+lengthWrong S I O inputRows inputMarks outputTable outputMarks nodes rules place =
+    getD
+    (tuplesWrong 4 512 inputRows
+    ∷ not (eqb inputMarks I)
+    ∷ not (eqb outputTable (tableLength S O))
+    ∷ not (eqb outputMarks O)
+    ∷ tuplesWrong 5 256 nodes
+    ∷ tuplesWrong 3 256 rules
+    ∷ [])
+    place false
+
+-- "rows (state, symbol, left state, right state); for symbol 0 both child states are 0"
+abbrev pub inputRowWrong : (S I : ℕ) → InputRow → Bool
+inputRowWrong S I row =
+    leb I (row .state) || leb S (row .symbol) || leb I (row .left) || leb I (row .right)
+    || (eqb (row .symbol) 0 && not (eqb (row .left) 0 && eqb (row .right) 0))
+
+-- "a mark above 1 or an output entry not below O (index through input marks, output table, output marks laid end to end)"
+abbrev pub entryWrong : ℕ → (inputMarks outputTable outputMarks : List ℕ) → ℕ → Bool
+entryWrong O inputMarks outputTable outputMarks k =
+    choose (ltb k (length inputMarks)) (ltb 1 (markAt inputMarks k))
+    (choose (ltb k (length inputMarks + length outputTable)) (leb O (getD outputTable (k - length inputMarks) 0))
+    (ltb 1 (markAt outputMarks (k - (length inputMarks + length outputTable)))))
+
+-- "a parameter count above 2, or procedure 0 with parameters"
+abbrev pub countWrong : List ℕ → ℕ → Bool
+countWrong counts p = ltb 2 (countOf counts p) || (eqb p 0 && not (eqb (countOf counts p) 0))
+
+-- how many smaller nodes a node refers to: two below an output symbol other than 0, below a call one for each parameter
+abbrev pub references : List ℕ → Node → ℕ
+references counts n =
+    choose (eqb (n .tag) 1) (choose (eqb (n .name) 0) 0 2) (choose (eqb (n .tag) 2) (countOf counts (n .name)) 0)
+
+abbrev pub tagWrong : Node → Bool
+tagWrong n = ltb 2 (n .tag)
+
+-- "parameter name, 1 or 2", "output symbol name", "calls procedure name"
+abbrev pub nameWrong : ℕ → List ℕ → Node → Bool
+nameWrong S counts n =
+    choose (eqb (n .tag) 0) (outside 1 2 (n .name)) (choose (eqb (n .tag) 1) (leb S (n .name)) (leb (length counts) (n .name)))
+
+-- "on child 1 (left) or 2 (right)"
+abbrev pub childWrong : Node → Bool
+childWrong n = eqb (n .tag) 2 && outside 1 2 (n .child)
+
+-- "smaller node numbers"
+abbrev pub referenceWrong : List ℕ → ℕ → Node → Bool
+referenceWrong counts k n =
+    (leb 1 (references counts n) && leb k (n .first)) || (leb 2 (references counts n) && leb k (n .second))
+
+-- "unused fields 0"
+abbrev pub unusedFilled : List ℕ → Node → Bool
+unusedFilled counts n =
+    (not (eqb (n .tag) 2) && not (eqb (n .child) 0)) || (ltb (references counts n) 1 && not (eqb (n .first) 0))
+    || (ltb (references counts n) 2 && not (eqb (n .second) 0))
+
+-- node k is bad
+abbrev pub nodeWrong : ℕ → List ℕ → ℕ → Node → Bool
+nodeWrong S counts k n =
+    tagWrong n || nameWrong S counts n || childWrong n || referenceWrong counts k n || unusedFilled counts n
+
+-- "The node uses, directly or below, no parameter above the procedure's count; under symbol 0 it holds no call."
+abbrev pub ruleWrong : ℕ → (counts nodes : List ℕ) → Rule → Bool
+ruleWrong S counts nodes r =
+    leb (length counts) (r .procedure) || leb S (r .symbol) || leb (nodeCount nodes) (r .node)
+    || ltb (countOf counts (r .procedure)) (greatestParameter (expression counts nodes (r .node)))
+    || (eqb (r .symbol) 0 && holdsCall (expression counts nodes (r .node)))
+
+-- "At most 256 facts in all."
+abbrev pub mostFacts : ℕ
+mostFacts = 256
+
+module _ (C : Contract) where
+  -- "1, a size out of range (place 0 to 3: symbols, input states, output states, procedures)"
+  unfoldable pub sizes : Verdict
+  sizes = refuseFirst 1 (sizeWrong (C .transformation .symbols) (C .input .states) (C .output .states) (length (C .transformation .counts))) 4
+
+  -- "2, a table's length"
+  unfoldable pub lengths : Verdict
+  lengths =
+      refuseFirst 2
+      (lengthWrong (C .transformation .symbols) (C .input .states) (C .output .states) (length (C .input .rows)) (length (C .input .marks))
+      (length (C .output .table))
+      (length (C .output .marks))
+      (length (C .transformation .nodes))
+      (length (C .transformation .rules)))
+      6
+
+  -- "3, a bad input row (row)"
+  unfoldable pub inputRows : Verdict
+  inputRows =
+      refuseFirst 3 (λ r. inputRowWrong (C .transformation .symbols) (C .input .states) (inputRow (C .input .rows) r)) (inputRowCount (C .input .rows))
+
+  -- "4, a mark above 1 or an output entry not below O (index ..)"
+  unfoldable pub entries : Verdict
+  entries =
+      refuseFirst 4 (entryWrong (C .output .states) (C .input .marks) (C .output .table) (C .output .marks))
+      (length (C .input .marks) + length (C .output .table) + length (C .output .marks))
+
+  -- "5, a parameter count above 2, or procedure 0 with parameters (procedure)"
+  unfoldable pub counts : Verdict
+  counts = refuseFirst 5 (countWrong (C .transformation .counts)) (length (C .transformation .counts))
+
+  -- "6, a bad node (node)"
+  unfoldable pub nodes : Verdict
+  nodes =
+      refuseFirst 6 (λ n. nodeWrong (C .transformation .symbols) (C .transformation .counts) n (nodeAt (C .transformation .nodes) n))
+      (nodeCount (C .transformation .nodes))
+
+  -- "7, a bad rule (rule)"
+  unfoldable pub rules : Verdict
+  rules =
+      refuseFirst 7 (λ r. ruleWrong (C .transformation .symbols) (C .transformation .counts) (C .transformation .nodes) (ruleAt (C .transformation .rules) r))
+      (ruleCount (C .transformation .rules))
+
+  -- "8, over 256 facts (the total)"
+  unfoldable pub facts : Verdict
+  facts = refuseIf (ltb mostFacts (factTotal (C .output .states) (C .transformation .counts))) 8 (factTotal (C .output .states) (C .transformation .counts))
+
+  -- "Refusals, first that applies, lowest place"
+  unfoldable pub admission : Verdict
+  admission = sizes then lengths then inputRows then entries then counts then nodes then rules then facts
+
+  -- "Otherwise the contract is admitted, with no number. Nothing is written."
+  unfoldable pub admit : Answer
+  admit = given admission refusal admitted

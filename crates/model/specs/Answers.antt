@@ -1,0 +1,45 @@
+-- Answers: what an operation gives back, in document 01's numbers; and refusals, of which the first that applies is given.
+use mathlib.Core.Bool.{Bool}
+use Prim.Native.Nat.{ℕ}
+use lib.Dec.{ltb}
+use Rattle.foundation.specs.Tests.{choose}
+use Rattle.foundation.specs.Search.{first}
+
+-- "a refusal carries a number and a place", or nothing is refused
+pub data Verdict : Type 0 where
+  fine : Verdict
+  refused : (number place : ℕ) → Verdict
+
+-- the first refusal that applies
+infixr 25 _then_
+unfoldable pub _then_ : Verdict → Verdict → Verdict
+fine then v = v
+refused number place then v = refused number place
+
+unfoldable pub refuseIf : Bool → ℕ → ℕ → Verdict
+refuseIf test number place = choose test (refused number place) fine
+
+-- "lowest place": the first of n entries that is bad
+unfoldable pub refuseFirst : ℕ → (ℕ → Bool) → ℕ → Verdict
+refuseFirst number bad n = refuseIf (ltb (first bad n) n) number (first bad n)
+
+-- the answers of the five operations, with their values
+pub data Answer : Type 0 where
+  -- "the contract is admitted, with no number"
+  admitted : Answer
+  -- "the result is 0, .. 1, .. 2"
+  judged : (result : ℕ) → Answer
+  -- "'Tree' with row j", "'Pass' with the count"
+  tree : (row : ℕ) → Answer
+  pass : (count : ℕ) → Answer
+  -- "root row and rows used come back"
+  ran : (root used : ℕ) → Answer
+  -- "the count returns"
+  written : (count : ℕ) → Answer
+  -- number and place
+  refusal : (number place : ℕ) → Answer
+
+-- what is given where nothing is refused, and otherwise the refusal
+unfoldable pub given {ℓ} : {A : Type ℓ} → Verdict → (ℕ → ℕ → A) → A → A
+given fine onRefusal a = a
+given (refused number place) onRefusal a = onRefusal number place

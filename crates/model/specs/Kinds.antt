@@ -1,0 +1,77 @@
+-- Kinds: five 64-bit words that say which input states a tree reaches and which facts hold of it.
+use mathlib.Core.List.{List, [], _∷_}
+use mathlib.Core.Bool.{Bool}
+use Prim.Native.Nat.{ℕ, _+_, _/_, _%_}
+use lib.ListN.{getD}
+use Rattle.foundation.specs.Tests.{someBelow, _and_, same}
+use Rattle.foundation.specs.Words.{bit, word}
+use Rattle.model.specs.Trees.{Tree, empty, node}
+use Rattle.model.specs.Tables.{Contract, InputType, inputRow, inputRowCount, markAt}
+use Rattle.model.specs.Facts.{FactSet, noFacts, onSide, factsAt, factNumber, numbered}
+
+-- "The empty forest reaches each state that has an input row with symbol 0"
+unfoldable pub reachedEmpty : InputType → ℕ → Bool
+reachedEmpty X q = someBelow (inputRowCount (X .rows)) (λ r. same (inputRow (X .rows) r .state) q and same (inputRow (X .rows) r .symbol) 0)
+
+-- "any other tree reaches state s if some input row has s, its root symbol, and states that its left and its right child
+-- reach"
+unfoldable pub reachedNext : InputType → ℕ → (leftReaches rightReaches : ℕ → Bool) → ℕ → Bool
+reachedNext X s leftReaches rightReaches q =
+    someBelow (inputRowCount (X .rows))
+    (λ r.
+    same (inputRow (X .rows) r .state) q
+    and same (inputRow (X .rows) r .symbol) s
+    and leftReaches (inputRow (X .rows) r .left)
+    and rightReaches (inputRow (X .rows) r .right))
+
+module _ (C : Contract) where
+  -- whether the fact of number f is in a set
+  abbrev pub numberedFact : FactSet → ℕ → Bool
+  numberedFact facts f = numbered (C .output .states) (C .transformation .counts) facts f
+
+  -- "word 0 has a bit for each input state the tree reaches; fact f is bit f mod 64 of word 1 + f div 64"
+  unfoldable pub kindWords : (ℕ → Bool) → FactSet → List ℕ
+  kindWords reaches facts =
+      word (C .input .states) reaches
+      ∷ word 64 (λ b. numberedFact facts b)
+      ∷ word 64 (λ b. numberedFact facts (64 + b))
+      ∷ word 64 (λ b. numberedFact facts (128 + b))
+      ∷ word 64 (λ b. numberedFact facts (192 + b))
+      ∷ []
+
+  -- what a kind's words say: the input states, the facts by number, the facts
+  unfoldable pub stateIn : List ℕ → ℕ → Bool
+  stateIn kind q = bit (getD kind 0 0) q
+
+  unfoldable pub bitOfFact : List ℕ → ℕ → Bool
+  bitOfFact kind f = bit (getD kind (1 + f / 64) 0) (f % 64)
+
+  unfoldable pub factsIn : List ℕ → FactSet
+  factsIn kind p q qs = bitOfFact kind (factNumber (C .output .states) (C .transformation .counts) p q qs)
+
+  -- the kind of the empty forest
+  unfoldable pub emptyKind : List ℕ
+  emptyKind = kindWords (reachedEmpty (C .input)) (factsAt (C .transformation) (C .output) (λ c. noFacts) 0)
+
+  -- the kind of a symbol over two kinds
+  unfoldable pub nextKind : ℕ → List ℕ → List ℕ → List ℕ
+  nextKind s l r =
+      kindWords (reachedNext (C .input) s (stateIn l) (stateIn r)) (factsAt (C .transformation) (C .output) (onSide (factsIn l) (factsIn r)) s)
+
+  -- "The kind of a tree is five 64-bit words"
+  unfoldable pub kindOf : Tree → List ℕ
+  kindOf empty = emptyKind
+  kindOf (node s l r) = nextKind s (kindOf l) (kindOf r)
+
+  -- "some accepted input state is in it"
+  unfoldable pub ofInputType : List ℕ → Bool
+  ofInputType kind = someBelow (C .input .states) (λ q. same (markAt (C .input .marks) q) 1 and stateIn kind q)
+
+  -- "some fact of procedure 0 with a state not accepted"
+  unfoldable pub hasWrongOutput : List ℕ → Bool
+  hasWrongOutput kind = someBelow (C .output .states) (λ q. same (markAt (C .output .marks) q) 0 and factsIn kind 0 q [])
+
+  -- "A kind breaks the contract if some accepted input state is in it and some fact of procedure 0 with a state not
+  -- accepted."
+  unfoldable pub breaks : List ℕ → Bool
+  breaks kind = ofInputType kind and hasWrongOutput kind

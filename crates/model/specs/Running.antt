@@ -1,0 +1,125 @@
+-- Running a transformation on a document: the order of work, the answer and the closing row buffer.
+use mathlib.Core.Bool.{Bool, true, false, not, _&&_, _||_}
+use mathlib.Core.List.{List, [], _∷_, _++_}
+use Prim.Native.Nat.{ℕ, suc, _+_, _/_, _%_}
+use lib.Dec.{eqb, ltb}
+use lib.ListN.{length, getD, replicate}
+use Rattle.foundation.specs.Tests.{choose}
+use Rattle.foundation.specs.Search.{first}
+use Rattle.foundation.specs.Lists.{zeroFilled}
+use Rattle.model.specs.Trees.{Tree, empty, node}
+use Rattle.model.specs.Rows.{rowCount}
+use Rattle.model.specs.Tables.{Contract, Transformation, ruleAt, ruleCount}
+use Rattle.model.specs.Expressions.{Child, left, right, Expression, parameter, nothing, symbol, call, Arguments, none, argument}
+use Rattle.model.specs.Outputs.{rightSide}
+use Rattle.model.specs.Facts.{onSide}
+use Rattle.model.specs.Answers.{Verdict, refuseIf, _then_, Answer, ran, refusal, given}
+use Rattle.model.specs.Admission.{admission}
+use Rattle.model.specs.Documents.{document, documentTree}
+
+-- "15, a call past 65,536"
+abbrev pub mostCalls : ℕ
+mostCalls = 65536
+
+-- "Rows used and calls made are one small tally which each call brings forward."
+pub record Tally : Type 0 where
+  pub used : ℕ
+  pub calls : ℕ
+
+-- the work so far: the tally, and the numbers of the rows used
+pub record Work : Type 0 where
+  pub tally : Tally
+  pub rows : List ℕ
+
+-- a step of the work: its result, or a refusal with number and place
+pub data Step (A : Type 0) : Type 0 where
+  made : A → Work → Step A
+  refused : (number place : ℕ) → Step A
+
+-- one step after another; "whichever comes first in that order of work is given"
+infixl 20 _after_
+unfoldable pub _after_ : {A B : Type 0} → Step A → (A → Work → Step B) → Step B
+made a w after k = k a w
+refused number place after k = refused number place
+
+-- "Each output symbol, 0 included, adds a row (symbol, left, right)"; "14, a row is due and none is free (the rows there
+-- are)"
+unfoldable pub addRow : ℕ → (symbol left right : ℕ) → Work → Step ℕ
+addRow free s l r w =
+    choose (ltb (w .tally .used) free)
+    (made (w .tally .used)
+    (record { tally = record { used = suc (w .tally .used); calls = w .tally .calls }; rows = w .rows ++ (s ∷ l ∷ r ∷ []) }))
+    (refused 14 free)
+
+-- "the call is counted, the start included"; "15, a call past 65,536 (place 65,536)"
+unfoldable pub countCall : Work → Step (Unit {0})
+countCall w =
+    choose (ltb (w .tally .calls) mostCalls)
+    (made tt (record { tally = record { used = w .tally .used; calls = suc (w .tally .calls) }; rows = w .rows }))
+    (refused 15 mostCalls)
+
+-- "taking for each call the first rule listed"; "then its rule sought"; "13, no rule (procedure)"
+unfoldable pub seekRule : Transformation → (procedure symbol : ℕ) → Work → Step ℕ
+seekRule T p s w =
+    let n : ℕ = ruleCount (T .rules) in
+    let r : ℕ = first (λ r. eqb (ruleAt (T .rules) r .procedure) p && eqb (ruleAt (T .rules) r .symbol) s) n in
+    choose (ltb r n) (made r w) (refused 13 p)
+
+-- running a procedure with the rows of its parameters
+abbrev pub Runs : Type 0
+Runs = ℕ → List ℕ → Work → Step ℕ
+
+-- a call under symbol 0, which no admitted contract has
+abbrev pub noRuns : Runs
+noRuns p ws w = refused 13 p
+
+module _ (T : Transformation) (free : ℕ) where
+  -- "Running a procedure evaluates its right side, which runs procedures on the children. Left before right, arguments
+  -- before the called procedure"; a row is added "after its children"
+  unfoldable mutual
+    pub evaluate : (Child → Runs) → Expression → List ℕ → Work → Step ℕ
+    evaluate runs (parameter i) ws w = made (getD ws i 0) w
+    evaluate runs nothing ws w = addRow free 0 0 0 w
+    evaluate runs (symbol s e f) ws w = evaluate runs e ws w after λ l w₁. evaluate runs f ws w₁ after λ r w₂. addRow free s l r w₂
+    evaluate runs (call p c es) ws w = evaluateAll runs es ws w after λ vs w₁. runs c p vs w₁
+
+    pub evaluateAll : (Child → Runs) → Arguments → List ℕ → Work → Step (List ℕ)
+    evaluateAll runs none ws w = made [] w
+    evaluateAll runs (argument e es) ws w = evaluate runs e ws w after λ v w₁. evaluateAll runs es ws w₁ after λ vs w₂. made (v ∷ vs) w₂
+
+  -- a call on a tree of root symbol s
+  unfoldable pub runAt : (Child → Runs) → ℕ → Runs
+  runAt runs s p ws w = countCall w after λ one w₁. seekRule T p s w₁ after λ r w₂. evaluate runs (rightSide T r) ws w₂
+
+  unfoldable pub runOn : Tree → Runs
+  runOn empty = runAt (λ c. noRuns) 0
+  runOn (node s l r) = runAt (onSide (runOn l) (runOn r)) s
+
+-- "Procedure 0 is then called on the tree"
+unfoldable pub run : Transformation → ℕ → Tree → Step ℕ
+run T free t = runOn T free t 0 [] (record { tally = record { used = 0; calls = 0 }; rows = [] })
+
+pub record Ran : Type 0 where
+  pub answer : Answer
+  pub rows : List ℕ
+
+-- "the buffer is then all 0. Otherwise root row and rows used come back, unused rows 0."
+unfoldable pub closing : ℕ → Step ℕ → Ran
+closing n (made root w) = record { answer = ran root (w .tally .used); rows = zeroFilled n (w .rows) }
+closing n (refused number place) = record { answer = refusal number place; rows = replicate n 0 }
+
+-- "no multiple of three or above 12,288"
+abbrev pub rowsWrong : ℕ → Bool
+rowsWrong n = not (eqb (n % 3) 0) || ltb 12288 n
+
+module _ (C : Contract) where
+  -- "1 to 8; 9, the row buffer's length is no multiple of three or above 12,288 (place 0); 11; 12"
+  unfoldable pub runningVerdict : (numbers buffer : List ℕ) → Verdict
+  runningVerdict numbers buffer =
+      admission C then refuseIf (rowsWrong (length buffer)) 9 0 then document (C .transformation .symbols) numbers
+
+  -- "these write nothing"
+  unfoldable pub running : (numbers buffer : List ℕ) → Ran
+  running numbers buffer =
+      given (runningVerdict numbers buffer) (λ number place. record { answer = refusal number place; rows = buffer })
+      (closing (length buffer) (run (C .transformation) (rowCount buffer) (documentTree numbers)))

@@ -1,0 +1,28 @@
+-- Trees: forests in binary form, their height, and their numbers in preorder.
+use mathlib.Core.List.{List, [], _∷_, _++_}
+use Prim.Native.Nat.{ℕ, suc, _≤_, _<_, max}
+
+-- "symbol 0 is the empty forest and is a leaf; every other symbol has two children, left the first child's forest,
+-- right the following siblings"
+pub data Tree : Type 0 where
+  empty : Tree
+  node : ℕ → Tree → Tree → Tree
+
+-- "The empty forest has height 0, any other tree 1 plus the greater height of its children."
+abbrev pub height : Tree → ℕ
+height empty = 0
+height (node s l r) = suc (max (height l) (height r))
+
+abbrev pub rootSymbol : Tree → ℕ
+rootSymbol empty = 0
+rootSymbol (node s l r) = s
+
+-- a tree over the symbols below S
+abbrev pub Over : ℕ → Tree → Type 0
+Over S empty = Unit {0}
+Over S (node s l r) = (1 ≤ s) × (s < S) × Over S l × Over S r
+
+-- "its symbols in preorder"
+unfoldable pub preorder : Tree → List ℕ
+preorder empty = 0 ∷ []
+preorder (node s l r) = s ∷ (preorder l ++ preorder r)

@@ -1,0 +1,2 @@
+-- What the typed tuples of the code stand for.
+pub mod Tuples

@@ -1,0 +1,100 @@
+// Typed numbers, and the tuples of the tables read by name.
+//
+// An input state, an output state, a procedure and a symbol are each a type of their own, so that code that hands one
+// where another is due does not build. A size (how many symbols there are) and a node or row number are plain numbers.
+ghost use mathlib.Core.Path.{_≡_};
+ghost use Prim.Native.Nat.{ℕ, _/_, _<_};
+ghost use lib.ListN.{length};
+ghost use Rattle.model.specs.Rows.{rowAt, rowCount};
+ghost use Rattle.model.specs.Tables.{inputRow, inputRowCount, nodeAt, nodeCount, ruleAt, ruleCount};
+ghost use Rattle.tables.specs.Tuples.{inputRowOf, nodeOf, ruleOf, rowOf};
+
+pub struct Symbol(pub u16);
+
+pub struct InputState(pub u16);
+
+pub struct OutputState(pub u16);
+
+pub struct Procedure(pub u16);
+
+// A row of an input type.
+pub struct InputRow {
+    pub state: InputState,
+    pub symbol: Symbol,
+    pub left: InputState,
+    pub right: InputState,
+}
+
+// An expression node. What `name` is depends on the tag: a parameter, a symbol or a procedure.
+pub struct Node {
+    pub tag: u16,
+    pub name: u16,
+    pub child: u16,
+    pub first: u16,
+    pub second: u16,
+}
+
+// A rule of a transformation.
+pub struct Rule {
+    pub procedure: Procedure,
+    pub symbol: Symbol,
+    pub node: u16,
+}
+
+// A row of a table that stands for trees.
+pub struct Row {
+    pub symbol: Symbol,
+    pub left: u16,
+    pub right: u16,
+}
+
+// Row k of an input type.
+pub fn input_row_at(rows: &[u16], k: usize) -> InputRow
+    requires { ⌜ k < inputRowCount (now rows) ⌝ }
+    ensures { λ r. ⌜ inputRowOf r ≡ inputRow (now (rows .entry)) k ⌝ }
+{
+    InputRow {
+        state: InputState(rows[4 * k]),
+        symbol: Symbol(rows[4 * k + 1]),
+        left: InputState(rows[4 * k + 2]),
+        right: InputState(rows[4 * k + 3]),
+    }
+}
+
+// Expression node k.
+pub fn node_at(nodes: &[u16], k: usize) -> Node
+    requires { ⌜ k < nodeCount (now nodes) ⌝ }
+    ensures { λ r. ⌜ nodeOf r ≡ nodeAt (now (nodes .entry)) k ⌝ }
+{
+    Node {
+        tag: nodes[5 * k],
+        name: nodes[5 * k + 1],
+        child: nodes[5 * k + 2],
+        first: nodes[5 * k + 3],
+        second: nodes[5 * k + 4],
+    }
+}
+
+// Rule k.
+pub fn rule_at(rules: &[u16], k: usize) -> Rule
+    requires { ⌜ k < ruleCount (now rules) ⌝ }
+    ensures { λ r. ⌜ ruleOf r ≡ ruleAt (now (rules .entry)) k ⌝ }
+{
+    Rule {
+        procedure: Procedure(rules[3 * k]),
+        symbol: Symbol(rules[3 * k + 1]),
+        node: rules[3 * k + 2],
+    }
+}
+
+// Row k of a table of rows.
+pub fn row_at(rows: &[u16], k: usize) -> Row
+    requires { ⌜ k < rowCount (now rows) ⌝ }
+    ensures { λ r. ⌜ rowOf r ≡ rowAt (now (rows .entry)) k ⌝ }
+{
+    Row {
+        symbol: Symbol(rows[3 * k]),
+        left: rows[3 * k + 1],
+        right: rows[3 * k + 2],
+    }
+}

@@ -1,0 +1,36 @@
+-- The worked contracts of document 01, and a small contract for each of its false readings.
+use mathlib.Core.List.{List, [], _∷_}
+use Prim.Native.Nat.{ℕ}
+use Rattle.model.specs.Tables.{Contract, contract}
+
+-- "C1: S = 2, I = 1, O = 2, one procedure. Input rows (0,0,0,0), (0,1,0,0), mark 1. Output table 0,1,1,1,1. The procedure
+-- copies: 0 to 0, 1 to 1 of itself on both children.", with the output marks given
+abbrev pub C1 : List ℕ → Contract
+C1 marks =
+    contract 2 1 2 (0 ∷ []) (0 ∷ 0 ∷ 0 ∷ 0 ∷ 0 ∷ 1 ∷ 0 ∷ 0 ∷ []) (1 ∷ []) (0 ∷ 1 ∷ 1 ∷ 1 ∷ 1 ∷ []) marks
+    -- 0: symbol 0; 1: call 0 left; 2: call 0 right; 3: 1(node 1, node 2)
+    (1 ∷ 0 ∷ 0 ∷ 0 ∷ 0 ∷ 2 ∷ 0 ∷ 1 ∷ 0 ∷ 0 ∷ 2 ∷ 0 ∷ 2 ∷ 0 ∷ 0 ∷ 1 ∷ 1 ∷ 0 ∷ 1 ∷ 2 ∷ [])
+    (0 ∷ 0 ∷ 0 ∷ 0 ∷ 1 ∷ 3 ∷ [])
+
+-- "C2: types of C1, counts 0, 1; procedure 0 gives 0 on 0, and on 1 calls 1 on the right child with argument 0; procedure 1
+-- gives its parameter on 0, and on 1 calls itself on the right child with 1(0, parameter)."
+abbrev pub C2 : Contract
+C2 =
+    contract 2 1 2 (0 ∷ 1 ∷ []) (0 ∷ 0 ∷ 0 ∷ 0 ∷ 0 ∷ 1 ∷ 0 ∷ 0 ∷ []) (1 ∷ []) (0 ∷ 1 ∷ 1 ∷ 1 ∷ 1 ∷ []) (1 ∷ 1 ∷ [])
+    -- 0: symbol 0; 1: call 1 right (node 0); 2: parameter 1; 3: 1(node 0, node 2); 4: call 1 right (node 3)
+    (1 ∷ 0 ∷ 0 ∷ 0 ∷ 0 ∷ 2 ∷ 1 ∷ 2 ∷ 0 ∷ 0 ∷ 0 ∷ 1 ∷ 0 ∷ 0 ∷ 0 ∷ 1 ∷ 1 ∷ 0 ∷ 0 ∷ 2 ∷ 2 ∷ 1 ∷ 2 ∷ 3 ∷ 0 ∷ [])
+    (0 ∷ 0 ∷ 0 ∷ 0 ∷ 1 ∷ 1 ∷ 1 ∷ 0 ∷ 2 ∷ 1 ∷ 1 ∷ 4 ∷ [])
+
+-- "C3: types of C1, counts 0, 1, 0; procedure 0 on 1 calls 1 on the left child with argument procedure 2 on the left child;
+-- procedure 1 gives 0 on 0; no other rule."
+abbrev pub C3 : List ℕ → Contract
+C3 marks =
+    contract 2 1 2 (0 ∷ 1 ∷ 0 ∷ []) (0 ∷ 0 ∷ 0 ∷ 0 ∷ 0 ∷ 1 ∷ 0 ∷ 0 ∷ []) (1 ∷ []) (0 ∷ 1 ∷ 1 ∷ 1 ∷ 1 ∷ []) marks
+    -- 0: call 2 left; 1: call 1 left (node 0); 2: symbol 0
+    (2 ∷ 2 ∷ 1 ∷ 0 ∷ 0 ∷ 2 ∷ 1 ∷ 1 ∷ 0 ∷ 0 ∷ 1 ∷ 0 ∷ 0 ∷ 0 ∷ 0 ∷ [])
+    (0 ∷ 1 ∷ 1 ∷ 1 ∷ 0 ∷ 2 ∷ [])
+
+-- "with O = 4, one procedure of no parameters, three of two, three of one and three more of none make 256 facts, admitted;
+-- one more of none makes 260, refusal 8"
+abbrev pub Sized : List ℕ → Contract
+Sized counts = contract 1 1 4 counts [] (0 ∷ []) (0 ∷ []) (0 ∷ 0 ∷ 0 ∷ 0 ∷ []) [] []

@@ -1,0 +1,88 @@
+-- X1 to X8 and X12 of document 01, with rows and words, as one table; the checker computes every answer of it.
+use mathlib.Core.Path.{_≡_, refl}
+use mathlib.Core.List.{List, [], _∷_, _++_, map}
+use Prim.Native.Nat.{ℕ, _*_}
+use lib.ListN.{replicate}
+use Rattle.foundation.specs.Tests.{_and_, _or_, same, below, someBelow}
+use Rattle.foundation.specs.Search.{first}
+use Rattle.foundation.specs.Words.{bit, word}
+use Rattle.foundation.specs.Lists.{zeroFilled, sameList}
+use Rattle.model.specs.Trees.{preorder}
+use Rattle.model.specs.Documents.{joined, forest, leadingFrom, leading, treeOf, documentTree, wholeTree, document}
+use Rattle.model.specs.Rows.{treeBelow, treeAt}
+use Rattle.model.specs.Tables.{Contract}
+use Rattle.model.specs.Expressions.{expressionOf, expressionBelow, expression, greatestParameter, holdsCall}
+use Rattle.model.specs.Answers.{_then_, refuseIf, refuseFirst, given, Answer, admitted, judged, pass, tree, ran, written, refusal}
+use Rattle.model.specs.Admission.{sizes, lengths, inputRows, entries, counts, nodes, rules, facts, admission, admit}
+use Rattle.model.specs.Facts.{yields, yieldsAll, factsAt, fact, digits, code, offset, factNumber, numberedFrom, numbered}
+use Rattle.model.specs.Kinds.{reachedEmpty, reachedNext, kindWords, stateIn, bitOfFact, factsIn, emptyKind, nextKind, kindOf, ofInputType, hasWrongOutput, breaks}
+use Rattle.model.specs.Rounds.{lists, added, roundTo, round, listingFrom, listing}
+use Rattle.model.specs.Judging.{judgement, judgingVerdict, judging}
+use Rattle.model.specs.Checking.{rowNumbers, kindNumbers, standing, firstBreaking, answered, check, checkingVerdict, checking}
+use Rattle.model.specs.Running.{_after_, addRow, countCall, seekRule, evaluate, evaluateAll, runAt, runOn, run, closing, runningVerdict, running}
+use Rattle.model.specs.WritingOut.{writingVerdict, writingOut}
+use Rattle.worked_table.specs.Questions
+use Rattle.worked_table.specs.Questions.{Question, Reply, ask, lent}
+use Rattle.worked_table.specs.Contracts.{C1, C2, C3, Sized}
+
+pub record Case : Type 0 where
+  pub contract : Contract
+  pub question : Question
+  pub reply : Reply
+
+-- a line of the table: contract, question, answer, closing buffers
+abbrev pub line : Contract → Question → Answer → List (List ℕ) → Case
+line C question answer buffers = record { contract = C; question = question; reply = record { answer = answer; buffers = buffers } }
+
+-- the closing buffers of a check under limit L
+abbrev pub closed : ℕ → (rows words : List ℕ) → List (List ℕ)
+closed L rows words = zeroFilled (3 * L) rows ∷ zeroFilled (5 * L) words ∷ []
+
+-- the closing buffer of a run with n rows
+abbrev pub closedRun : ℕ → List ℕ → List (List ℕ)
+closedRun n rows = zeroFilled (3 * n) rows ∷ []
+
+abbrev pub table : List Case
+table =
+    -- X1
+    line (C1 (1 ∷ 1 ∷ [])) (Questions.check 2) (pass 2) (closed 2 (0 ∷ 0 ∷ 0 ∷ 1 ∷ 0 ∷ 0 ∷ []) (1 ∷ 1 ∷ 0 ∷ 0 ∷ 0 ∷ 1 ∷ 2 ∷ 0 ∷ 0 ∷ 0 ∷ []))
+    -- X2
+    ∷ line (C1 (1 ∷ 1 ∷ [])) (Questions.check 1) (refusal 10 1) (closed 1 [] [])
+    -- X3
+    ∷ line (C1 (0 ∷ 1 ∷ [])) (Questions.check 1) (tree 0) (closed 1 (0 ∷ 0 ∷ 0 ∷ []) (1 ∷ 1 ∷ 0 ∷ 0 ∷ 0 ∷ []))
+    -- X4, and its row 1 written out
+    ∷ line (C1 (1 ∷ 0 ∷ [])) (Questions.check 512) (tree 1)
+    (closed 512 (0 ∷ 0 ∷ 0 ∷ 1 ∷ 0 ∷ 0 ∷ []) (1 ∷ 1 ∷ 0 ∷ 0 ∷ 0 ∷ 1 ∷ 2 ∷ 0 ∷ 0 ∷ 0 ∷ []))
+    ∷ line (C1 (1 ∷ 0 ∷ [])) (Questions.writeOut (zeroFilled (3 * 512) (0 ∷ 0 ∷ 0 ∷ 1 ∷ 0 ∷ 0 ∷ [])) 1 4) (written 3) ((1 ∷ 0 ∷ 0 ∷ 7 ∷ []) ∷ [])
+    -- X5
+    ∷ line (C1 (1 ∷ 0 ∷ [])) (Questions.check 1) (refusal 10 1) (closed 1 [] [])
+    -- X6
+    ∷ line C2 (Questions.run 100 (1 ∷ 0 ∷ 1 ∷ 0 ∷ 0 ∷ [])) (ran 2 3) (closedRun 100 (0 ∷ 0 ∷ 0 ∷ 0 ∷ 0 ∷ 0 ∷ 1 ∷ 1 ∷ 0 ∷ []))
+    -- X7
+    ∷ line C2 (Questions.run 100 (0 ∷ [])) (ran 0 1) (closedRun 100 (0 ∷ 0 ∷ 0 ∷ []))
+    -- X8
+    ∷ line C2 (Questions.run 2 (1 ∷ 0 ∷ 1 ∷ 0 ∷ 0 ∷ [])) (refusal 14 2) (closedRun 2 [])
+    -- X12
+    ∷ line (C3 (0 ∷ 0 ∷ [])) (Questions.check 512) (pass 2) (closed 512 (0 ∷ 0 ∷ 0 ∷ 1 ∷ 0 ∷ 0 ∷ []) (1 ∷ 12 ∷ 0 ∷ 0 ∷ 0 ∷ 1 ∷ 0 ∷ 0 ∷ 0 ∷ 0 ∷ []))
+    -- 256 facts and 260
+    ∷ line (Sized (0 ∷ 2 ∷ 2 ∷ 2 ∷ 1 ∷ 1 ∷ 1 ∷ 0 ∷ 0 ∷ 0 ∷ [])) Questions.admit admitted []
+    ∷ line (Sized (0 ∷ 2 ∷ 2 ∷ 2 ∷ 1 ∷ 1 ∷ 1 ∷ 0 ∷ 0 ∷ 0 ∷ 0 ∷ [])) Questions.admit (refusal 8 260) []
+    ∷ []
+
+-- one name that opens every definition, for computing
+unfoldable pub computing : Unit {0}
+unfolding _and_ _or_ same below someBelow first bit word zeroFilled sameList
+  preorder joined forest leadingFrom leading treeOf documentTree wholeTree document treeBelow treeAt
+  expressionOf expressionBelow expression greatestParameter holdsCall _then_ refuseIf refuseFirst given
+  sizes lengths inputRows entries counts nodes rules facts admission admit
+  yields factsAt fact digits code offset factNumber numberedFrom numbered
+  reachedEmpty reachedNext kindWords stateIn bitOfFact factsIn emptyKind nextKind kindOf ofInputType hasWrongOutput breaks
+  lists added roundTo round listingFrom listing judgement judgingVerdict judging
+  rowNumbers kindNumbers standing firstBreaking answered check checkingVerdict checking
+  _after_ addRow countCall seekRule evaluate runAt runOn run closing runningVerdict running writingVerdict writingOut ask
+computing = tt
+
+-- the definitions give every answer of the table, and leave the buffers as it says
+pub worked : map (λ (c : Case). ask (c .contract) (c .question)) table ≡ map (λ (c : Case). c .reply) table
+unfolding computing
+worked = refl
