@@ -72,14 +72,14 @@ table =
 -- one name that opens every definition, for computing
 unfoldable pub computing : Unit {0}
 unfolding _and_ _or_ same below someBelow first bit word zeroFilled sameList
-  preorder joined forest leadingFrom leading treeOf documentTree wholeTree document treeBelow treeAt
-  expressionOf expressionBelow expression greatestParameter holdsCall _then_ refuseIf refuseFirst given
-  sizes lengths inputRows entries counts nodes rules facts admission admit
-  yields factsAt fact digits code offset factNumber numberedFrom numbered
-  reachedEmpty reachedNext kindWords stateIn bitOfFact factsIn emptyKind nextKind kindOf ofInputType hasWrongOutput breaks
-  lists added roundTo round listingFrom listing judgement judgingVerdict judging
-  rowNumbers kindNumbers standing firstBreaking answered check checkingVerdict checking
-  _after_ addRow countCall seekRule evaluate runAt runOn run closing runningVerdict running writingVerdict writingOut ask
+    preorder joined forest leadingFrom leading treeOf documentTree wholeTree document treeBelow treeAt
+    expressionOf expressionBelow expression greatestParameter holdsCall _then_ refuseIf refuseFirst given
+    sizes lengths inputRows entries counts nodes rules facts admission admit
+    yields factsAt fact digits code offset factNumber numberedFrom numbered
+    reachedEmpty reachedNext kindWords stateIn bitOfFact factsIn emptyKind nextKind kindOf ofInputType hasWrongOutput breaks
+    lists added roundTo round listingFrom listing judgement judgingVerdict judging
+    rowNumbers kindNumbers standing firstBreaking answered check checkingVerdict checking
+    _after_ addRow countCall seekRule evaluate runAt runOn run closing runningVerdict running writingVerdict writingOut ask
 computing = tt
 
 -- the definitions give every answer of the table, and leave the buffers as it says
