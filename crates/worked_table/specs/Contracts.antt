@@ -34,3 +34,38 @@ C3 marks =
 -- one more of none makes 260, refusal 8"
 abbrev pub Sized : List ℕ → Contract
 Sized counts = contract 1 1 4 counts [] (0 ∷ []) (0 ∷ []) (0 ∷ 0 ∷ 0 ∷ 0 ∷ []) [] []
+
+-- Types of C1 and a procedure with no rule. "Turning down a contract because some tree has no output" would refuse it.
+abbrev pub Silent : Contract
+Silent = contract 2 1 2 (0 ∷ []) (0 ∷ 0 ∷ 0 ∷ 0 ∷ 0 ∷ 1 ∷ 0 ∷ 0 ∷ []) (1 ∷ []) (0 ∷ 1 ∷ 1 ∷ 1 ∷ 1 ∷ []) (0 ∷ 0 ∷ []) [] []
+
+-- an output type that tells 0, 1(0, 0) and 1 of 1(0, 0) twice from all other trees, and allows the second and the third
+abbrev pub pairTable : List ℕ
+pairTable = 0 ∷ 1 ∷ 3 ∷ 3 ∷ 3 ∷ 3 ∷ 2 ∷ 3 ∷ 3 ∷ 3 ∷ 3 ∷ 3 ∷ 3 ∷ 3 ∷ 3 ∷ 3 ∷ 3 ∷ []
+
+-- On 1(0, 0) procedure 1 gives 1(y, y) with y either 0 or 1(0, 0). "Choosing afresh at each use of a parameter" would give
+-- 1(0, 1(0, 0)) too, which is not allowed.
+abbrev pub OneChoice : Contract
+OneChoice =
+    contract 2 2 4 (0 ∷ 1 ∷ 0 ∷ []) (0 ∷ 0 ∷ 0 ∷ 0 ∷ 1 ∷ 1 ∷ 0 ∷ 0 ∷ []) (0 ∷ 1 ∷ []) pairTable (0 ∷ 1 ∷ 1 ∷ 0 ∷ [])
+    -- 0: symbol 0; 1: 1(node 0, node 0); 2: parameter 1; 3: 1(node 2, node 2); 4: call 2 left; 5: call 1 left (node 4)
+    (1 ∷ 0 ∷ 0 ∷ 0 ∷ 0 ∷ 1 ∷ 1 ∷ 0 ∷ 0 ∷ 0 ∷ 0 ∷ 1 ∷ 0 ∷ 0 ∷ 0 ∷ 1 ∷ 1 ∷ 0 ∷ 2 ∷ 2 ∷ 2 ∷ 2 ∷ 1 ∷ 0 ∷ 0 ∷ 2 ∷ 1 ∷ 1 ∷ 4 ∷ 0 ∷ [])
+    (0 ∷ 1 ∷ 5 ∷ 1 ∷ 0 ∷ 3 ∷ 2 ∷ 0 ∷ 0 ∷ 2 ∷ 0 ∷ 1 ∷ [])
+
+-- Procedure 0 on 1 gives 1 over two calls of procedure 1 on the left child, which gives 0 on 0 and 1(0, 0) on 1. "Treating
+-- two calls on one child as calls on unrelated trees" would give 1(0, 1(0, 0)) too, which is not allowed.
+abbrev pub OneChild : Contract
+OneChild =
+    contract 2 1 4 (0 ∷ 0 ∷ []) (0 ∷ 0 ∷ 0 ∷ 0 ∷ 0 ∷ 1 ∷ 0 ∷ 0 ∷ []) (1 ∷ []) pairTable (0 ∷ 1 ∷ 1 ∷ 0 ∷ [])
+    -- 0: symbol 0; 1: 1(node 0, node 0); 2: call 1 left; 3: call 1 left; 4: 1(node 2, node 3)
+    (1 ∷ 0 ∷ 0 ∷ 0 ∷ 0 ∷ 1 ∷ 1 ∷ 0 ∷ 0 ∷ 0 ∷ 2 ∷ 1 ∷ 1 ∷ 0 ∷ 0 ∷ 2 ∷ 1 ∷ 1 ∷ 0 ∷ 0 ∷ 1 ∷ 1 ∷ 0 ∷ 2 ∷ 3 ∷ [])
+    (0 ∷ 1 ∷ 4 ∷ 1 ∷ 0 ∷ 0 ∷ 1 ∷ 1 ∷ 1 ∷ [])
+
+-- Symbol 1 adds no kind in round 1, and symbol 2 adds a breaking one. "Ending when a round adds nothing for one symbol"
+-- would pass it.
+abbrev pub LateSymbol : Contract
+LateSymbol =
+    contract 3 2 2 (0 ∷ []) (0 ∷ 0 ∷ 0 ∷ 0 ∷ 0 ∷ 1 ∷ 0 ∷ 0 ∷ 1 ∷ 2 ∷ 0 ∷ 0 ∷ []) (1 ∷ 1 ∷ []) (0 ∷ 1 ∷ 1 ∷ 1 ∷ 1 ∷ 1 ∷ 1 ∷ 1 ∷ 1 ∷ []) (1 ∷ 0 ∷ [])
+    -- 0: symbol 0; 1: 1(node 0, node 0)
+    (1 ∷ 0 ∷ 0 ∷ 0 ∷ 0 ∷ 1 ∷ 1 ∷ 0 ∷ 0 ∷ 0 ∷ [])
+    (0 ∷ 0 ∷ 0 ∷ 0 ∷ 1 ∷ 0 ∷ 0 ∷ 2 ∷ 1 ∷ [])

@@ -1,4 +1,4 @@
--- X1 to X8 and X12 of document 01, with rows and words, as one table; the checker computes every answer of it.
+-- X1 to X8 and X12 of document 01, its sizes and its false readings, as one table; the checker computes every answer of it.
 use mathlib.Core.Path.{_≡_, refl}
 use mathlib.Core.List.{List, [], _∷_, _++_, map}
 use Prim.Native.Nat.{ℕ, _*_}
@@ -23,7 +23,7 @@ use Rattle.model.specs.Running.{_after_, addRow, countCall, seekRule, evaluate,
 use Rattle.model.specs.WritingOut.{writingVerdict, writingOut}
 use Rattle.worked_table.specs.Questions
 use Rattle.worked_table.specs.Questions.{Question, Reply, ask, lent}
-use Rattle.worked_table.specs.Contracts.{C1, C2, C3, Sized}
+use Rattle.worked_table.specs.Contracts.{C1, C2, C3, Sized, Silent, OneChoice, OneChild, LateSymbol}
 
 pub record Case : Type 0 where
   pub contract : Contract
@@ -67,6 +67,13 @@ table =
     -- 256 facts and 260
     ∷ line (Sized (0 ∷ 2 ∷ 2 ∷ 2 ∷ 1 ∷ 1 ∷ 1 ∷ 0 ∷ 0 ∷ 0 ∷ [])) Questions.admit admitted []
     ∷ line (Sized (0 ∷ 2 ∷ 2 ∷ 2 ∷ 1 ∷ 1 ∷ 1 ∷ 0 ∷ 0 ∷ 0 ∷ 0 ∷ [])) Questions.admit (refusal 8 260) []
+    -- the false readings: an unused argument skipped is X12; then a tree without an output, a choice anew at each use of a
+    -- parameter, two calls on one child, and a round that adds nothing for one symbol
+    ∷ line Silent (Questions.check 3) (pass 1) (closed 3 (0 ∷ 0 ∷ 0 ∷ []) (1 ∷ 0 ∷ 0 ∷ 0 ∷ 0 ∷ []))
+    ∷ line OneChoice (Questions.judge (1 ∷ 0 ∷ 0 ∷ [])) (judged 1) ((2 ∷ 6 ∷ 0 ∷ 0 ∷ 0 ∷ []) ∷ [])
+    ∷ line OneChild (Questions.check 3) (pass 3)
+    (closed 3 (0 ∷ 0 ∷ 0 ∷ 1 ∷ 0 ∷ 0 ∷ 1 ∷ 1 ∷ 0 ∷ []) (1 ∷ 16 ∷ 0 ∷ 0 ∷ 0 ∷ 1 ∷ 34 ∷ 0 ∷ 0 ∷ 0 ∷ 1 ∷ 36 ∷ 0 ∷ 0 ∷ 0 ∷ []))
+    ∷ line LateSymbol (Questions.check 2) (tree 1) (closed 2 (0 ∷ 0 ∷ 0 ∷ 2 ∷ 0 ∷ 0 ∷ []) (1 ∷ 1 ∷ 0 ∷ 0 ∷ 0 ∷ 2 ∷ 2 ∷ 0 ∷ 0 ∷ 0 ∷ []))
     ∷ []
 
 -- one name that opens every definition, for computing
