@@ -1,0 +1,7 @@
+-- Laws of the definitions, a file for each of the files of specs/ that has any, and what admission establishes.
+pub mod Answers
+pub mod Expressions
+pub mod Rows
+pub mod Established
+pub mod Admitted
+pub mod Facts

@@ -1,0 +1,276 @@
+-- What the kind of a tree says of the tree: the input states reached, the facts that hold, and whether the tree breaks the
+-- contract. Each bit is shown to be what document 01 says that it stands for.
+use mathlib.Core.Path.{_≡_, refl, ap, ap₂, subst, sym, _∙_}
+use mathlib.Core.List.{List, []}
+use mathlib.Core.Bool.{Bool, true, false}
+use mathlib.Core.Logic.{_↔_}
+use Prim.Native.Nat.{ℕ, zero, suc, _^_, _<_, _≤_}
+use native.Mathlib.Omega.{arith}
+use lib.Dec.{T}
+use lib.ListN.{length, getD}
+use Rattle.foundation.specs.Tests.{choose, and-left, and-right, and-both, same-eq, eq-same, some-intro, some-elim, test-ext}
+use Rattle.model.specs.Trees.{Tree, empty, node}
+use Rattle.model.specs.Tables.{Contract, InputType, inputRow, inputRowCount, markAt}
+use Rattle.model.specs.Expressions.{left, right}
+use Rattle.model.specs.Outputs.{Output}
+use Rattle.model.specs.Facts.{FactSet, fact, FactHolds, stateOf}
+use Rattle.model.specs.Kinds.{reachedEmpty, reachedNext, kindWords, stateIn, bitOfFact, factsIn, emptyKind, nextKind, kindOf, ofInputType, hasWrongOutput, breaks}
+use Rattle.model.specs.Judging.{judgement}
+use Rattle.model.specs.Claims.{Reaches, Takes, Allows, Breaks}
+use Rattle.model.proofs.Laws.Established.{Established}
+use Rattle.model.proofs.Laws.Facts.{FactOf, factCount, SameFactsOf, same-facts-chain, same-facts-sides, state-in-words, no-state-in-words, facts-in-words, no-fact-in-words, length-words, words-below, words-same, facts-at-same, right-side-well-formed}
+use Rattle.model.proofs.Meaning.Facts.{fact-holds, fact-output, state-of-below}
+
+-- one equivalence after another
+chain : {P Q R : Type 0} → P ↔ Q → Q ↔ R → P ↔ R
+chain f g = (λ p. g .0 (f .0 p), λ r. f .1 (g .1 r))
+
+-- equal tests hold together
+test-iff : {a b : Bool} → a ≡ b → T a ↔ T b
+test-iff e = (subst T e, subst T (sym e))
+
+turn : {P Q : Type 0} → P ↔ Q → Q ↔ P
+turn f = (f .1, f .0)
+
+tests-equal : {a b : Bool} {P : Type 0} → T a ↔ P → T b ↔ P → a ≡ b
+tests-equal {a} {b} f g = test-ext a b (λ x. g .1 (f .0 x)) (λ y. f .1 (g .0 y))
+
+-- the kind of a tree is a function of its symbol and the kinds of its children
+pub kind-empty : (C : Contract) → kindOf C empty ≡ emptyKind C
+unfolding kindOf
+kind-empty C = refl
+
+pub kind-node : (C : Contract) (s : ℕ) (l r : Tree) → kindOf C (node s l r) ≡ nextKind C s (kindOf C l) (kindOf C r)
+unfolding kindOf
+kind-node C s l r = refl
+
+-- trees of one kind stand for each other under a symbol
+pub kind-congruent : (C : Contract) (s : ℕ) (l l′ r r′ : Tree) → kindOf C l ≡ kindOf C l′ → kindOf C r ≡ kindOf C r′
+    → kindOf C (node s l r) ≡ kindOf C (node s l′ r′)
+unfolding kindOf
+kind-congruent C s l l′ r r′ e f = ap₂ (nextKind C s) e f
+
+module _ (X : InputType) where
+  reached-empty : (q : ℕ) → T (reachedEmpty X q) ↔ Reaches X empty q
+  unfolding reachedEmpty
+  reached-empty q = (
+    λ x. let (i, l, t) = some-elim _ _ x in (i, l, same-eq _ _ (and-left _ _ t), same-eq _ _ (and-right _ _ t)),
+    λ y. some-intro _ _ (y .0) (y .1) (and-both _ _ (eq-same _ _ (y .2)) (eq-same _ _ (y .3))),
+  )
+
+  reached-node : (s : ℕ) (l r : Tree) (f g : ℕ → Bool)
+      → ((i : ℕ) → i < inputRowCount (X .rows) → T (f (inputRow (X .rows) i .left)) ↔ Reaches X l (inputRow (X .rows) i .left))
+      → ((i : ℕ) → i < inputRowCount (X .rows) → T (g (inputRow (X .rows) i .right)) ↔ Reaches X r (inputRow (X .rows) i .right))
+      → (q : ℕ)
+      → T (reachedNext X s f g q) ↔ Reaches X (node s l r) q
+  unfolding reachedNext
+  reached-node s l r f g hf hg q = (
+    λ x.
+        let (i, h, t) = some-elim _ _ x in
+        let t′ = and-right _ _ t in
+        let t″ = and-right _ _ t′ in
+        (i, h, same-eq _ _ (and-left _ _ t), same-eq _ _ (and-left _ _ t′), hf i h .0 (and-left _ _ t″), hg i h .0 (and-right _ _ t″)),
+    λ y.
+        some-intro _ _ (y .0) (y .1)
+        (and-both _ _ (eq-same _ _ (y .2))
+        (and-both _ _ (eq-same _ _ (y .3)) (and-both _ _ (hf (y .0) (y .1) .1 (y .4)) (hg (y .0) (y .1) .1 (y .5))))),
+  )
+
+-- "an output outside the output type": procedure 0 has one that is not allowed
+pub record WrongOutput (C : Contract) (t : Tree) : Type 0 where
+  pub output : Tree
+  pub isOutput : Output (C .transformation) 0 t [] output
+  pub notAllowed : Allows C output → ⊥
+
+-- two trees reach the same input states, and the same facts hold of them
+pub record Alike (C : Contract) (t t′ : Tree) : Type 0 where
+  pub states : (q : ℕ) → q < C .input .states → Reaches (C .input) t q ↔ Reaches (C .input) t′ q
+  pub facts : (p q : ℕ) (qs : List ℕ) → FactOf C p q qs
+      → FactHolds (C .transformation) (C .output) t p q qs
+      ↔ FactHolds (C .transformation) (C .output) t′ p q qs
+
+-- "0, not of the input type; 1, of it with no output outside the output type; 2, of it with such an output"
+pub record Judges (C : Contract) (t : Tree) (result : ℕ) : Type 0 where
+  pub zero : (result ≡ 0) ↔ (Takes C t → ⊥)
+  pub one : (result ≡ 1) ↔ (Takes C t × (Breaks C t → ⊥))
+  pub two : (result ≡ 2) ↔ Breaks C t
+
+module _ (C : Contract) (known : Established C) where
+  -- "word 0 has a bit for each input state the tree reaches"
+  pub kind-states : (t : Tree) (q : ℕ) → q < C .input .states → T (stateIn C (kindOf C t) q) ↔ Reaches (C .input) t q
+  unfolding kindOf emptyKind nextKind
+  kind-states empty q h = chain (test-iff (state-in-words C _ _ q h)) (reached-empty (C .input) q)
+  kind-states (node s l r) q h =
+      chain (test-iff (state-in-words C _ _ q h))
+      (reached-node (C .input) s l r (stateIn C (kindOf C l)) (stateIn C (kindOf C r)) (λ i hi. kind-states l _ (known .inputRow i hi .left))
+      (λ i hi. kind-states r _ (known .inputRow i hi .right))
+      q)
+
+  -- every state reached is an input state, so that word 0 has room for it
+  pub reached-is-state : (t : Tree) (q : ℕ) → Reaches (C .input) t q → q < C .input .states
+  reached-is-state empty q (i, h, state, symbol) = rw (← state) (known .inputRow i h .state)
+  reached-is-state (node s l r) q (i, h, state, symbol, onLeft, onRight) = rw (← state) (known .inputRow i h .state)
+
+  -- the facts in a kind are those of the tree
+  kind-same-facts : (t : Tree) → SameFactsOf C (factsIn C (kindOf C t)) (fact (C .transformation) (C .output) t)
+  unfolding kindOf emptyKind nextKind fact
+  kind-same-facts empty = facts-in-words C _ _ (known .facts)
+  kind-same-facts (node s l r) =
+      same-facts-chain (C .output .states) (C .transformation .counts) (facts-in-words C _ _ (known .facts))
+      (facts-at-same (C .transformation) (C .output) _ _
+      (same-facts-sides (C .output .states) (C .transformation .counts) (kind-same-facts l) (kind-same-facts r))
+      (right-side-well-formed C known)
+      s)
+
+  -- "fact f is bit f mod 64 of word 1 + f div 64"
+  pub kind-facts : (t : Tree) (p q : ℕ) (qs : List ℕ) → FactOf C p q qs
+      → factsIn C (kindOf C t) p q qs ≡ fact (C .transformation) (C .output) t p q qs
+  kind-facts t p q qs is = kind-same-facts t .at p q qs is
+
+  -- .. set exactly if the fact holds of the tree
+  pub kind-facts-hold : (t : Tree) (p q : ℕ) (qs : List ℕ) → FactOf C p q qs
+      → T (factsIn C (kindOf C t) p q qs) ↔ FactHolds (C .transformation) (C .output) t p q qs
+  kind-facts-hold t p q qs is = chain (test-iff (kind-facts t p q qs is)) (fact-holds C known t p q qs (is .parameters))
+
+  -- a kind is the words of some states and facts, so that no bit stands for anything else
+  kind-made : (t : Tree) → (reaches : ℕ → Bool) × (facts : FactSet) × (kindOf C t ≡ kindWords C reaches facts)
+  unfolding kindOf emptyKind nextKind
+  kind-made empty = (_, _, refl)
+  kind-made (node s l r) = (_, _, refl)
+
+  pub kind-no-other-state : (t : Tree) (q : ℕ) → C .input .states ≤ q → stateIn C (kindOf C t) q ≡ false
+  kind-no-other-state t q h = let (reaches, facts, e) = kind-made t in rw e (no-state-in-words C reaches facts q h)
+
+  pub kind-no-other-fact : (t : Tree) (f : ℕ) → factCount C ≤ f → f < 256
+      → bitOfFact C (kindOf C t) f ≡ false
+  kind-no-other-fact t f h l = let (reaches, facts, e) = kind-made t in rw e (no-fact-in-words C reaches facts f h l)
+
+  -- "The kind of a tree is five 64-bit words"
+  pub kind-five : (t : Tree) → length (kindOf C t) ≡ 5
+  kind-five t = let (reaches, facts, e) = kind-made t in rw e (length-words C reaches facts)
+
+  pub kind-words : (t : Tree) (j : ℕ) → getD (kindOf C t) j 0 < 2 ^ 64
+  kind-words t j = let (reaches, facts, e) = kind-made t in rw e (words-below C reaches facts (omega (arith, known .inputStates)) j)
+
+  -- so it is the one list of words whose bits are the states that the tree reaches and the facts that hold of it
+  pub kind-determined : (t : Tree) (reaches : ℕ → Bool) (facts : FactSet)
+      → ((q : ℕ) → q < C .input .states → T (reaches q) ↔ Reaches (C .input) t q)
+      → ((p q : ℕ) (qs : List ℕ) → FactOf C p q qs → T (facts p q qs) ↔ FactHolds (C .transformation) (C .output) t p q qs)
+      → kindOf C t ≡ kindWords C reaches facts
+  kind-determined t reaches facts states hold =
+      let (reaches′, facts′, e) = kind-made t in
+      e
+      ∙ words-same C reaches′ reaches facts′ facts
+      (λ q h. sym (state-in-words C reaches′ facts′ q h) ∙ ap (λ (k : List ℕ). stateIn C k q) (sym e) ∙ tests-equal (kind-states t q h) (states q h))
+      (record {
+        at = λ p q qs is.
+            sym (facts-in-words C reaches′ facts′ (known .facts) .at p q qs is)
+            ∙ ap (λ (k : List ℕ). factsIn C k p q qs) (sym e)
+            ∙ tests-equal (kind-facts-hold t p q qs is) (hold p q qs is);
+      })
+
+  -- trees are of one kind exactly if they reach the same input states and the same facts hold of them
+  pub same-kind-exactly : (t t′ : Tree) → (kindOf C t ≡ kindOf C t′) ↔ Alike C t t′
+  same-kind-exactly t t′ = (
+    λ e.
+        record {
+          states = λ q h. chain (turn (kind-states t q h)) (chain (test-iff (ap (λ (k : List ℕ). stateIn C k q) e)) (kind-states t′ q h));
+          facts = λ p q qs is.
+              chain (turn (kind-facts-hold t p q qs is)) (chain (test-iff (ap (λ (k : List ℕ). factsIn C k p q qs) e)) (kind-facts-hold t′ p q qs is));
+        },
+    λ same.
+        let own : (u : Tree) → kindOf C u ≡ kindWords C (stateIn C (kindOf C u)) (factsIn C (kindOf C u)) =
+        λ u. kind-determined u _ _ (kind-states u) (kind-facts-hold u) in
+        kind-determined t (stateIn C (kindOf C t′)) (factsIn C (kindOf C t′)) (λ q h. chain (kind-states t′ q h) (turn (same .states q h)))
+        (λ p q qs is. chain (kind-facts-hold t′ p q qs is) (turn (same .facts p q qs is)))
+        ∙ sym (own t′),
+  )
+
+  -- "A contract takes a tree that reaches an accepted input state."
+  pub takes-exactly : (t : Tree) → T (ofInputType C (kindOf C t)) ↔ Takes C t
+  unfolding ofInputType
+  takes-exactly t = (
+    λ x.
+        let (q, h, k) = some-elim _ _ x in
+        record { state = q; isState = h; accepted = same-eq _ _ (and-left _ _ k); reached = kind-states t q h .0 (and-right _ _ k) },
+    λ y.
+        some-intro _ _ (y .state) (y .isState)
+        (and-both _ _ (eq-same _ _ (y .accepted)) (kind-states t (y .state) (y .isState) .1 (y .reached))),
+  )
+
+  -- procedure 0 with no parameters is a procedure
+  start-fact : (q : ℕ) → q < C .output .states → FactOf C 0 q []
+  start-fact q h = record { procedure = known .procedures .least≤; result = h; arity = sym (known .start); parameters = tt }
+
+  -- an output that is not allowed has a state whose mark is 0
+  not-allowed : (n : ℕ) → n ≤ 1 → (n ≡ 1 → ⊥) → n ≡ 0
+  not-allowed n h k = omega arith
+
+  -- "some fact of procedure 0 with a state not accepted"
+  pub wrong-output-exactly : (t : Tree) → T (hasWrongOutput C (kindOf C t)) ↔ WrongOutput C t
+  unfolding hasWrongOutput
+  wrong-output-exactly t = (
+    λ x.
+        let (q, h, k) = some-elim _ _ x in
+        let (u, made, e) = fact-output C known t 0 q [] .0 (subst T (kind-facts t 0 q [] (start-fact q h)) (and-right _ _ k)) in
+        let zero-mark : markAt (C .output .marks) (stateOf (C .output) u) ≡ 0 = rw e (same-eq _ _ (and-left _ _ k)) in
+        record { output = u; isOutput = made; notAllowed = λ one. omega arith },
+    λ y.
+        let u : Tree = y .output in
+        let q : ℕ = stateOf (C .output) u in
+        let h : q < C .output .states = state-of-below C known u in
+        some-intro _ _ q h
+        (and-both _ _ (eq-same _ _ (not-allowed _ (known .outputMark q) (y .notAllowed)))
+        (subst T (sym (kind-facts t 0 q [] (start-fact q h))) (fact-output C known t 0 q [] .1 (u, y .isOutput, refl)))),
+  )
+
+  -- a kind breaks the contract exactly if each tree of that kind does: "A tree breaks it if it is taken and procedure 0 has
+  -- an output on it that is not allowed."
+  pub breaks-exactly : (t : Tree) → T (breaks C (kindOf C t)) ↔ Breaks C t
+  unfolding breaks
+  breaks-exactly t = (
+    λ x.
+        let w : WrongOutput C t = wrong-output-exactly t .0 (and-right _ _ x) in
+        record { taken = takes-exactly t .0 (and-left _ _ x); output = w .output; isOutput = w .isOutput; notAllowed = w .notAllowed },
+    λ y.
+        let w : WrongOutput C t = record { output = y .output; isOutput = y .isOutput; notAllowed = y .notAllowed } in
+        and-both _ _ (takes-exactly t .1 (y .taken)) (wrong-output-exactly t .1 w),
+  )
+
+  -- of a tree that is taken, not to break the contract is to have allowed outputs only
+  pub not-breaks-exactly : (t : Tree) → Takes C t → (Breaks C t → ⊥) ↔ ((u : Tree) → Output (C .transformation) 0 t [] u → Allows C u)
+  not-breaks-exactly t taken = (
+    λ sound u made. allowed (markAt (C .output .marks) (stateOf (C .output) u)) (known .outputMark _)
+        (λ wrong. sound (record { taken = taken; output = u; isOutput = made; notAllowed = wrong })),
+    λ all b. b .notAllowed (all (b .output) (b .isOutput)),
+  )
+    where
+      allowed : (n : ℕ) → n ≤ 1 → ((n ≡ 1 → ⊥) → ⊥) → n ≡ 1
+      allowed zero h k = absurd (k (λ e. omega arith))
+      allowed (suc zero) h k = refl
+      allowed (suc (suc n)) h k = absurd (omega arith)
+
+  -- "the result is 0, ..; 1, ..; 2, .."
+  pub judgement-exactly : (t : Tree) → Judges C t (judgement C (kindOf C t))
+  unfolding judgement
+  judgement-exactly t = by-cases (ofInputType C (kindOf C t)) (breaks C (kindOf C t)) (takes-exactly t) (breaks-exactly t)
+    where
+      by-cases : (a b : Bool) → T a ↔ Takes C t → T b ↔ Breaks C t → Judges C t (choose a (choose b 2 1) 0)
+      by-cases true true f g =
+          record {
+            zero = (λ e. absurd (omega arith), λ k. absurd (k (f .0 tt)));
+            one = (λ e. absurd (omega arith), λ k. absurd (k .1 (g .0 tt)));
+            two = (λ e. g .0 tt, λ k. refl);
+          }
+      by-cases true false f g =
+          record {
+            zero = (λ e. absurd (omega arith), λ k. absurd (k (f .0 tt)));
+            one = (λ e. (f .0 tt, λ k. g .1 k), λ k. refl);
+            two = (λ e. absurd (omega arith), λ k. absurd (g .1 k));
+          }
+      by-cases false b f g =
+          record {
+            zero = (λ e k. f .1 k, λ k. refl);
+            one = (λ e. absurd (omega arith), λ k. absurd (f .1 (k .0)));
+            two = (λ e. absurd (omega arith), λ k. absurd (f .1 (k .taken)));
+          }
