@@ -16,3 +16,5 @@ pub mod Checking
 pub mod Running
 pub mod WritingOut
 pub mod Claims
+pub mod Meaning
+pub mod Demand

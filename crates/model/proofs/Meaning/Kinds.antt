@@ -17,6 +17,7 @@ use Rattle.model.specs.Facts.{FactSet, fact, FactHolds, stateOf}
 use Rattle.model.specs.Kinds.{reachedEmpty, reachedNext, kindWords, stateIn, bitOfFact, factsIn, emptyKind, nextKind, kindOf, ofInputType, hasWrongOutput, breaks}
 use Rattle.model.specs.Judging.{judgement}
 use Rattle.model.specs.Claims.{Reaches, Takes, Allows, Breaks}
+use Rattle.model.specs.Meaning.{Judges}
 use Rattle.model.proofs.Laws.Established.{Established}
 use Rattle.model.proofs.Laws.Facts.{FactOf, factCount, SameFactsOf, same-facts-chain, same-facts-sides, state-in-words, no-state-in-words, facts-in-words, no-fact-in-words, length-words, words-below, words-same, facts-at-same, right-side-well-formed}
 use Rattle.model.proofs.Meaning.Facts.{fact-holds, fact-output, state-of-below}
@@ -88,12 +89,6 @@ pub record Alike (C : Contract) (t t′ : Tree) : Type 0 where
   pub facts : (p q : ℕ) (qs : List ℕ) → FactOf C p q qs
       → FactHolds (C .transformation) (C .output) t p q qs
       ↔ FactHolds (C .transformation) (C .output) t′ p q qs
-
--- "0, not of the input type; 1, of it with no output outside the output type; 2, of it with such an output"
-pub record Judges (C : Contract) (t : Tree) (result : ℕ) : Type 0 where
-  pub zero : (result ≡ 0) ↔ (Takes C t → ⊥)
-  pub one : (result ≡ 1) ↔ (Takes C t × (Breaks C t → ⊥))
-  pub two : (result ≡ 2) ↔ Breaks C t
 
 module _ (C : Contract) (known : Established C) where
   -- "word 0 has a bit for each input state the tree reaches"

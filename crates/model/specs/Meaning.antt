@@ -1,0 +1,130 @@
+-- What the answers of judging and checking mean for all trees, as statements. proofs/Meaning proves them.
+use mathlib.Core.Path.{_≡_}
+use mathlib.Core.Bool.{false}
+use mathlib.Core.List.{List, []}
+use mathlib.Core.Logic.{_↔_}
+use Prim.Native.Nat.{ℕ, suc, _*_, _<_, _≤_}
+use lib.Dec.{T}
+use lib.ListN.{length, getD, take}
+use Rattle.model.specs.Trees.{Tree, height, Over}
+use Rattle.model.specs.Rows.{treeAt}
+use Rattle.model.specs.Tables.{Contract}
+use Rattle.model.specs.Answers.{Answer, tree, pass, refusal}
+use Rattle.model.specs.Kinds.{emptyKind, kindOf, breaks}
+use Rattle.model.specs.Rounds.{kindAutomaton, ListedKind, kindAt, rounds}
+use Rattle.model.specs.Checking.{Checked, standing, checking}
+use Rattle.model.specs.Claims.{Takes, Breaks}
+
+-- the trees that a contract speaks of: those over its symbols
+abbrev pub TreeOf : Contract → Tree → Type 0
+TreeOf C t = Over (C .transformation .symbols) t
+
+-- "0, not of the input type; 1, of it with no output outside the output type; 2, of it with such an output"
+pub record Judges (C : Contract) (t : Tree) (result : ℕ) : Type 0 where
+  pub zero : (result ≡ 0) ↔ (Takes C t → ⊥)
+  pub one : (result ≡ 1) ↔ (Takes C t × (Breaks C t → ⊥))
+  pub two : (result ≡ 2) ↔ Breaks C t
+
+-- lists, read with a default that no statement depends on: no entry stands twice; an entry stands there
+pub record AllDiffer {A : Type 0} (default : A) (entries : List A) : Type 0 where
+  pub differ : (i j : ℕ) → i < j → j < length entries → getD entries i default ≡ getD entries j default → ⊥
+
+pub record Among {A : Type 0} (default : A) (entries : List A) (a : A) : Type 0 where
+  pub index : ℕ
+  pub inside : index < length entries
+  pub found : getD entries index default ≡ a
+
+-- a list of kinds, each that of some tree, none twice
+pub record TreeKinds (C : Contract) (kinds : List (List ℕ)) : Type 0 where
+  pub allDiffer : AllDiffer (emptyKind C) kinds
+  pub ofTrees : (i : ℕ) → i < length kinds → (t : Tree) × TreeOf C t × (kindOf C t ≡ getD kinds i (emptyKind C))
+
+-- there are n kinds
+pub record KindCount (C : Contract) (n : ℕ) : Type 0 where
+  pub kinds : List (List ℕ)
+  pub count : length kinds ≡ n
+  pub areKinds : TreeKinds C kinds
+  pub all : (t : Tree) → TreeOf C t → Among (emptyKind C) kinds (kindOf C t)
+
+-- there are more than n kinds
+pub record MoreKinds (C : Contract) (n : ℕ) : Type 0 where
+  pub kinds : List (List ℕ)
+  pub more : n < length kinds
+  pub areKinds : TreeKinds C kinds
+
+-- the list of kinds after rounds 0 to h
+abbrev pub kindRounds : (C : Contract) → ℕ → List (ListedKind C)
+kindRounds C h = rounds (kindAutomaton C) h
+
+-- none of the first n rows breaks the contract
+pub record NoneBreaks (C : Contract) (n : ℕ) (rows : List (ListedKind C)) : Type 0 where
+  pub keeps : (i : ℕ) → i < n → i < length rows → breaks C (kindAt C rows i) ≡ false
+
+-- "none of the first L breaks": in no list of the rounds
+abbrev pub FirstKeep : Contract → ℕ → Type 0
+FirstKeep C L = (h : ℕ) → NoneBreaks C L (kindRounds C h)
+
+-- "row j, below L, is the first breaking kind"
+pub record FirstBreaks (C : Contract) (L j : ℕ) : Type 0 where
+  pub round : ℕ
+  pub belowLimit : j < L
+  pub inside : j < length (kindRounds C round)
+  pub breaking : T (breaks C (kindAt C (kindRounds C round) j))
+  pub noneBefore : NoneBreaks C j (kindRounds C round)
+
+-- "no tree breaks" the contract
+abbrev pub NoTreeBreaks : Contract → Type 0
+NoTreeBreaks C = (t : Tree) → TreeOf C t → Breaks C t → ⊥
+
+-- what a pass with count n under limit L says
+pub record PassMeans (C : Contract) (L n : ℕ) : Type 0 where
+  pub keeps : NoTreeBreaks C
+  pub counted : KindCount C n
+  pub withinLimit : n ≤ L
+
+-- a tree that breaks the contract, and "no lower one does"
+pub record LeastBreaking (C : Contract) (t : Tree) : Type 0 where
+  pub over : TreeOf C t
+  pub breaking : Breaks C t
+  pub least : (other : Tree) → TreeOf C other → Breaks C other → height t ≤ height other
+
+-- what refusal 10 under limit L says
+pub record StopMeans (C : Contract) (L : ℕ) : Type 0 where
+  pub moreKinds : MoreKinds C L
+  pub firstKeep : FirstKeep C L
+
+-- "each check with buffers of its limit's length, whatever they held", "No limit exceeds 512.": a limit and what is lent with
+-- it
+pub record Lent : Type 0 where
+  pub limit : ℕ
+  pub atLeast : 1 ≤ limit
+  pub atMost : limit ≤ 512
+  pub rowBuffer : List ℕ
+  pub rowsFit : length rowBuffer ≡ 3 * limit
+  pub wordBuffer : List ℕ
+  pub wordsFit : length wordBuffer ≡ 5 * limit
+
+-- "its answer and closing buffers being those stated under Checking"
+abbrev pub checkOf : Contract → Lent → Checked
+checkOf C lent = checking C (lent .limit) (lent .rowBuffer) (lent .wordBuffer)
+
+-- an answer of a check that is not refused
+pub data OneOfThree (L : ℕ) (answer : Answer) : Type 0 where
+  is-pass : (n : ℕ) → answer ≡ pass n → OneOfThree L answer
+  is-tree : (j : ℕ) → answer ≡ tree j → OneOfThree L answer
+  is-stop : answer ≡ refusal 10 L → OneOfThree L answer
+
+-- Demand 2, for checking: "A contract passes exactly if no tree of the input type has an output outside the output type and
+-- its kinds number at most the caller's limit, 512 at most. A document shown breaks the contract, and no lower one does. The
+-- check stops at its limit only as document 01 says."
+pub record CheckMeans (C : Contract) (lent : Lent) : Type 0 where
+  pub oneOfThree : OneOfThree (lent .limit) (checkOf C lent .answer)
+  pub passExactly : (n : ℕ) → (checkOf C lent .answer ≡ pass n) ↔ PassMeans C (lent .limit) n
+  pub treeExactly : (j : ℕ) → (checkOf C lent .answer ≡ tree j) ↔ FirstBreaks C (lent .limit) j
+  pub treeLeast : (j : ℕ) → checkOf C lent .answer ≡ tree j → LeastBreaking C (treeAt (checkOf C lent .rows) j)
+  pub stopExactly : (checkOf C lent .answer ≡ refusal 10 (lent .limit)) ↔ StopMeans C (lent .limit)
+  -- the rows and words that stand are those of the rounds
+  pub passRows : (n : ℕ) → checkOf C lent .answer ≡ pass n → checkOf C lent ≡ standing C (lent .limit) (pass n) (kindRounds C (lent .limit))
+  pub treeRows : (j : ℕ) → checkOf C lent .answer ≡ tree j
+      → checkOf C lent ≡ standing C (lent .limit) (tree j) (take (suc j) (kindRounds C (lent .limit)))
+  pub stopRows : checkOf C lent .answer ≡ refusal 10 (lent .limit) → checkOf C lent ≡ standing C (lent .limit) (refusal 10 (lent .limit)) []
