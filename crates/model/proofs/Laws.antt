@@ -5,3 +5,4 @@ pub mod Rows
 pub mod Established
 pub mod Admitted
 pub mod Facts
+pub mod Documents

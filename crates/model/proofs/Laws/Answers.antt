@@ -8,6 +8,9 @@ use lib.Dec.{ltb}
 use Rattle.foundation.specs.Search.{first, first-clear}
 use Rattle.model.specs.Answers.{Verdict, fine, refused, _then_, refuseIf, refuseFirst, Answer, admitted, refusal, given}
 
+pub refused-not-fine : (number place : ℕ) → refused number place ≡ fine → ⊥
+refused-not-fine number place e = let z : _≡_ {A = ℕ} 0 1 = cc in omega arith
+
 pub then-fine-left : (v w : Verdict) → (v then w) ≡ fine → v ≡ fine
 unfolding _then_
 then-fine-left fine w e = refl
@@ -17,6 +20,9 @@ pub then-fine-right : (v w : Verdict) → (v then w) ≡ fine → w ≡ fine
 unfolding _then_
 then-fine-right fine w e = e
 then-fine-right (refused number place) w e = let z : _≡_ {A = ℕ} 0 1 = cc in absurd (omega arith)
+
+pub then-fine : (v w : Verdict) → (v then w) ≡ fine → (v ≡ fine) × (w ≡ fine)
+then-fine v w e = (then-fine-left v w e, then-fine-right v w e)
 
 -- what comes before and is fine does not matter
 pub then-passed : (v w : Verdict) → v ≡ fine → (v then w) ≡ w

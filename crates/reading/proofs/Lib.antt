@@ -1,0 +1,4 @@
+-- Lemmas that the proofs of the functions cite.
+pub mod Steps
+pub mod Verdicts
+pub mod Ends

@@ -1,0 +1,31 @@
+-- The readings and verdicts of the model that the code's answers stand for.
+use mathlib.Core.Path.{_≡_, refl}
+use Rattle.model.specs.Answers.{Verdict, fine, refused, Answer, refusal, given}
+use Rattle.model.specs.Documents as model
+use Rattle.answers.specs.declared.DocumentFault.{DocumentFault}
+use Rattle.answers.specs.declared.DocumentFault.the-variants as fault
+use Rattle.answers.specs.Numbers.{documentRefusal}
+use Rattle.reading.specs.declared.Leading.{Leading}
+use Rattle.reading.specs.declared.Leading.the-variants as leading
+use Rattle.reading.specs.declared.DocumentAnswer.{DocumentAnswer}
+use Rattle.reading.specs.declared.DocumentAnswer.the-variants as answer
+
+abbrev pub leadingOf : Leading → model.Leading
+leadingOf (leading.Ends at) = model.ends at
+leadingOf (leading.Faulty at) = model.faulty at
+
+-- refusals 11 and 12
+abbrev pub faultVerdict : DocumentFault → Verdict
+faultVerdict (fault.Length numbers) = refused 11 numbers
+faultVerdict (fault.Number place) = refused 12 place
+
+abbrev pub documentVerdict : DocumentAnswer → Verdict
+documentVerdict answer.Whole = fine
+documentVerdict (answer.Refused fault) = faultVerdict fault
+
+-- a fault is answered by its refusal, whatever else the answer holds
+pub fault-given : {A : Type 0} (f : DocumentFault) (with-answer : Answer → A) (a : A)
+    → given (faultVerdict f) (λ number place. with-answer (refusal number place)) a ≡ with-answer (documentRefusal f)
+unfolding given
+fault-given (fault.Length numbers) with-answer a = refl
+fault-given (fault.Number place) with-answer a = refl
