@@ -1,18 +1,18 @@
 -- What the admission of a contract establishes: one lemma for each table turns "no entry is bad" into what is good of it.
 use mathlib.Core.Path.{_≡_, refl, sym, _∙_}
-use mathlib.Core.Bool.{Bool, true, false, _&&_, _||_, not}
-use mathlib.Core.List.{List, [], _∷_}
-use Prim.Native.Nat.{ℕ, zero, suc, _+_, _*_, _-_, _/_, _%_, _<_, _≤_}
+use mathlib.Core.Bool.{Bool, true, false, _&&_, _||_, not, true≢false, false≢true}
+use mathlib.Core.List.{List}
+use Prim.Native.Nat.{ℕ, _+_, _*_, _-_, _/_, _%_, _<_, _≤_}
 use native.Mathlib.Nat.{div-add-mod, div-le-of-le-mul}
 use native.Mathlib.Omega.{arith}
 use native.Mathlib.Decide.{ℕ-discrete}
-use borrow.Author.Tests.{ltb-true, ltb-false, leb-true, leb-false, eqb-true, eqb-false, not-false, lt-ltb, le-ltb, le-leb, eq-eqb, ne-eqb}
+use borrow.Author.Tests.{ltb-true, ltb-false, leb-false, eqb-true, not-false, lt-ltb, le-ltb, le-leb, eq-eqb, ne-eqb}
 use lib.Dec.{ltb, leb, eqb}
 use lib.ListN.{length, getD, List·getD-eq-default}
 use Rattle.model.specs.Tables.{Contract, InputRow, inputRow, inputRowCount, Node, nodeAt, nodeCount, Rule, ruleAt, ruleCount, countOf, markAt}
 use Rattle.model.specs.Expressions.{expression, greatestParameter, holdsCall}
 use Rattle.model.specs.Facts.{factTotal}
-use Rattle.model.specs.Answers.{Verdict, fine, Answer, admitted, refusal, given}
+use Rattle.model.specs.Answers.{fine, refuseFirst, admitted}
 use Rattle.model.specs.Admission.{outside, sizeWrong, tuplesWrong, tableLength, lengthWrong, inputRowWrong, entryWrong, countWrong, references, tagWrong, nameWrong, childWrong, referenceWrong, unusedFilled, nodeWrong, ruleWrong, mostFacts, sizes, lengths, inputRows, entries, counts, nodes, rules, facts, admission, admit}
 use Rattle.model.proofs.Laws.Answers.{then-fine-left, then-fine-right, refuse-if-fine, refuse-first-fine, given-admitted}
 use Rattle.model.proofs.Laws.Established.{Between, WholeTuples, GoodInputRow, GoodNode, good-parameter, good-nothing, good-symbol, good-call, GoodRule, Established}
@@ -23,17 +23,18 @@ or-left true b e = e
 or-left false b e = refl
 
 or-right : (a b : Bool) → (a || b) ≡ false → b ≡ false
-or-right true b e = let z : _≡_ {A = ℕ} 0 1 = cc in absurd (omega arith)
+or-right true b e = absurd (true≢false e)
 or-right false b e = e
 
--- a conjunction that fails though one part holds
+-- a conjunction that fails though its first part holds, and one that does not fail
 and-right : (a b : Bool) → (a && b) ≡ false → a ≡ true → b ≡ false
 and-right true b e t = e
-and-right false b e t = let z : _≡_ {A = ℕ} 0 1 = cc in absurd (omega arith)
+and-right false b e t = absurd (false≢true t)
 
-and-left : (a b : Bool) → (a && b) ≡ false → b ≡ true → a ≡ false
-and-left true b e t = cc
-and-left false b e t = refl
+both-true : (a b : Bool) → not (a && b) ≡ false → (a ≡ true) × (b ≡ true)
+both-true true true h = (refl, refl)
+both-true true false h = absurd (true≢false h)
+both-true false b h = absurd (true≢false h)
 
 -- the five parts of a disjunction that fails
 record NoneOf (a b c d e : Bool) : Type 0 where
@@ -44,12 +45,17 @@ record NoneOf (a b c d e : Bool) : Type 0 where
   five : e ≡ false
 
 none-of : (a b c d e : Bool) → (a || b || c || d || e) ≡ false → NoneOf a b c d e
-none-of false false false false false h = record { one = refl; two = refl; three = refl; four = refl; five = refl }
-none-of false false false false true h = let z : _≡_ {A = ℕ} 0 1 = cc in absurd (omega arith)
-none-of false false false true e h = let z : _≡_ {A = ℕ} 0 1 = cc in absurd (omega arith)
-none-of false false true d e h = let z : _≡_ {A = ℕ} 0 1 = cc in absurd (omega arith)
-none-of false true c d e h = let z : _≡_ {A = ℕ} 0 1 = cc in absurd (omega arith)
-none-of true b c d e h = let z : _≡_ {A = ℕ} 0 1 = cc in absurd (omega arith)
+none-of a b c d e h =
+    let abcd : (a || b || c || d) ≡ false = or-left (a || b || c || d) e h in
+    let abc : (a || b || c) ≡ false = or-left (a || b || c) d abcd in
+    let ab : (a || b) ≡ false = or-left (a || b) c abc in
+    record {
+      one = or-left a b ab;
+      two = or-right a b ab;
+      three = or-right (a || b) c abc;
+      four = or-right (a || b || c) d abcd;
+      five = or-right (a || b || c || d) e h;
+    }
 
 inside : (least most n : ℕ) → outside least most n ≡ false → Between least most n
 inside least most n h =
@@ -58,6 +64,22 @@ inside least most n h =
 not-eqb : (m n : ℕ) → not (eqb m n) ≡ false → m ≡ n
 not-eqb m n h = eqb-true m n (not-false (eqb m n) h)
 
+-- the four sizes
+pub record GoodSizes (S I O P : ℕ) : Type 0 where
+  pub symbols : Between 1 16 S
+  pub inputStates : Between 1 32 I
+  pub outputStates : Between 1 4 O
+  pub procedures : Between 1 16 P
+
+pub good-sizes : (S I O P : ℕ) → refuseFirst 1 (sizeWrong S I O P) 4 ≡ fine → GoodSizes S I O P
+good-sizes S I O P e =
+    record {
+      symbols = inside 1 16 S (refuse-first-fine 1 _ 4 e 0 (omega arith));
+      inputStates = inside 1 32 I (refuse-first-fine 1 _ 4 e 1 (omega arith));
+      outputStates = inside 1 4 O (refuse-first-fine 1 _ 4 e 2 (omega arith));
+      procedures = inside 1 16 P (refuse-first-fine 1 _ 4 e 3 (omega arith));
+    }
+
 -- a whole number of tuples, and no more than the most
 whole-tuples : (width most n : ℕ) → tuplesWrong width most n ≡ false → WholeTuples width most n (n / width)
 whole-tuples width most n h =
@@ -65,11 +87,6 @@ whole-tuples width most n h =
     let f : n ≤ width * most = ltb-false (width * most) n (or-right (not (eqb (n % width) 0)) _ h) in
     let e : n ≡ width * (n / width) = sym (div-add-mod n width) ∙ rw r (omega arith) in
     record { whole = e; few = div-le-of-le-mul width f }
-
-both-true : (a b : Bool) → not (a && b) ≡ false → (a ≡ true) × (b ≡ true)
-both-true true true h = (refl, refl)
-both-true true false h = let z : _≡_ {A = ℕ} 0 1 = cc in absurd (omega arith)
-both-true false b h = let z : _≡_ {A = ℕ} 0 1 = cc in absurd (omega arith)
 
 good-input-row : (S I : ℕ) (row : InputRow) → inputRowWrong S I row ≡ false → GoodInputRow S I row
 good-input-row S I row h =
@@ -231,9 +248,9 @@ module _ (C : Contract) where
   abbrev P : ℕ
   P = length (C .transformation .counts)
 
-  size-fine : (place : ℕ) → place < 4 → sizes C ≡ fine → sizeWrong S I O P place ≡ false
+  pub sizes-good : sizes C ≡ fine → GoodSizes S I O P
   unfolding sizes
-  size-fine place h e = refuse-first-fine 1 _ 4 e place h
+  sizes-good e = good-sizes S I O P e
 
   length-fine : (place : ℕ) → place < 6 → lengths C ≡ fine
       → lengthWrong S I O (length (C .input .rows)) (length (C .input .marks)) (length (C .output .table)) (length (C .output .marks))
@@ -275,17 +292,14 @@ module _ (C : Contract) where
   unfolding facts
   facts-good e = ltb-false mostFacts _ (refuse-if-fine _ 8 _ e)
 
-  pub symbols-good : sizes C ≡ fine → Between 1 16 S
-  symbols-good e = inside 1 16 S (size-fine 0 (omega arith) e)
+  pub input-marks-long : lengths C ≡ fine → length (C .input .marks) ≡ I
+  input-marks-long e = not-eqb _ _ (length-fine 1 (omega arith) e)
 
-  pub input-states-good : sizes C ≡ fine → Between 1 32 I
-  input-states-good e = inside 1 32 I (size-fine 1 (omega arith) e)
+  pub output-table-long : lengths C ≡ fine → length (C .output .table) ≡ tableLength S O
+  output-table-long e = not-eqb _ _ (length-fine 2 (omega arith) e)
 
-  pub output-states-good : sizes C ≡ fine → Between 1 4 O
-  output-states-good e = inside 1 4 O (size-fine 2 (omega arith) e)
-
-  pub procedures-good : sizes C ≡ fine → Between 1 16 P
-  procedures-good e = inside 1 16 P (size-fine 3 (omega arith) e)
+  pub output-marks-long : lengths C ≡ fine → length (C .output .marks) ≡ O
+  output-marks-long e = not-eqb _ _ (length-fine 3 (omega arith) e)
 
   pub nodes-whole : lengths C ≡ fine → WholeTuples 5 256 (length (C .transformation .nodes)) (nodeCount (C .transformation .nodes))
   nodes-whole e = whole-tuples 5 256 _ (length-fine 4 (omega arith) e)
@@ -293,25 +307,25 @@ module _ (C : Contract) where
 pub established : (C : Contract) → admission C ≡ fine → Established C
 established C e =
     record {
-      symbols = symbols-good C (p .sizesFine);
-      inputStates = input-states-good C (p .sizesFine);
-      outputStates = output-states-good C (p .sizesFine);
-      procedures = procedures-good C (p .sizesFine);
+      symbols = s .symbols;
+      inputStates = s .inputStates;
+      outputStates = s .outputStates;
+      procedures = s .procedures;
       inputRows = whole-tuples 4 512 _ (length-fine C 0 (omega arith) (p .lengthsFine));
-      inputMarks = inputMarks;
-      outputTable = outputTable;
-      outputMarks = outputMarks;
+      inputMarks = input-marks-long C (p .lengthsFine);
+      outputTable = output-table-long C (p .lengthsFine);
+      outputMarks = output-marks-long C (p .lengthsFine);
       nodes = nodes-whole C (p .lengthsFine);
       rules = whole-tuples 3 256 _ (length-fine C 5 (omega arith) (p .lengthsFine));
       inputRow = input-rows-good C (p .inputRowsFine);
       inputMark = everywhere (C .input .marks) (λ (m : ℕ). m ≤ 1) (omega arith)
           (λ k h. good-input-mark (O C) (C .input .marks) (C .output .table) (C .output .marks) k h (entry-fine C k (omega arith) (p .entriesFine)));
-      outputEntry = everywhere (C .output .table) (λ (q : ℕ). q < O C) (output-states-good C (p .sizesFine) .least≤)
+      outputEntry = everywhere (C .output .table) (λ (q : ℕ). q < O C) (s .outputStates .least≤)
           (λ k h. good-output-entry (O C) (C .input .marks) (C .output .table) (C .output .marks) k h (entry-fine C _ (omega arith) (p .entriesFine)));
       outputMark = everywhere (C .output .marks) (λ (m : ℕ). m ≤ 1) (omega arith)
           (λ k h. good-output-mark (O C) (C .input .marks) (C .output .table) (C .output .marks) k (entry-fine C _ (omega arith) (p .entriesFine)));
       count = counts-good C (p .countsFine);
-      start = good-start (C .transformation .counts) (count-fine C (p .countsFine) 0 (procedures-good C (p .sizesFine) .least≤));
+      start = good-start (C .transformation .counts) (count-fine C (p .countsFine) 0 (s .procedures .least≤));
       node = nodes-good C (p .nodesFine);
       rule = rules-good C (p .rulesFine);
       facts = facts-good C (p .factsFine);
@@ -320,14 +334,8 @@ established C e =
     p : Parts C
     p = parts C e
 
-    inputMarks : length (C .input .marks) ≡ I C
-    inputMarks = not-eqb _ _ (length-fine C 1 (omega arith) (p .lengthsFine))
-
-    outputTable : length (C .output .table) ≡ tableLength (S C) (O C)
-    outputTable = not-eqb _ _ (length-fine C 2 (omega arith) (p .lengthsFine))
-
-    outputMarks : length (C .output .marks) ≡ O C
-    outputMarks = not-eqb _ _ (length-fine C 3 (omega arith) (p .lengthsFine))
+    s : GoodSizes (S C) (I C) (O C) (P C)
+    s = sizes-good C (p .sizesFine)
 
 -- an answer that says admitted says that nothing is refused
 pub admit-fine : (C : Contract) → admit C ≡ admitted → admission C ≡ fine

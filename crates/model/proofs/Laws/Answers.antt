@@ -1,12 +1,14 @@
 -- Refusals: a sequence gives none exactly where no part does, and a table where no entry is bad; and which one is given.
-use mathlib.Core.Path.{_≡_, refl, sym, _∙_}
+use mathlib.Core.Path.{_≡_, refl, _∙_}
 use mathlib.Core.Bool.{Bool, true, false}
 use Prim.Native.Nat.{ℕ, _<_, _≤_}
 use native.Mathlib.Omega.{arith}
 use borrow.Author.Tests.{ltb-false, lt-ltb, le-ltb}
-use lib.Dec.{ltb}
 use Rattle.foundation.specs.Search.{first, first-clear}
-use Rattle.model.specs.Answers.{Verdict, fine, refused, _then_, refuseIf, refuseFirst, Answer, admitted, refusal, given}
+use Rattle.model.specs.Answers.{Verdict, fine, refused, _then_, refuseIf, refuseFirst, admitted, refusal, given}
+
+fine-refuses-nothing : (number place : ℕ) → refused number place ≡ fine → ⊥
+fine-refuses-nothing number place e = let z : _≡_ {A = ℕ} 0 1 = cc in omega arith
 
 pub refused-not-fine : (number place : ℕ) → refused number place ≡ fine → ⊥
 refused-not-fine number place e = let z : _≡_ {A = ℕ} 0 1 = cc in omega arith
@@ -19,7 +21,7 @@ then-fine-left (refused number place) w e = e
 pub then-fine-right : (v w : Verdict) → (v then w) ≡ fine → w ≡ fine
 unfolding _then_
 then-fine-right fine w e = e
-then-fine-right (refused number place) w e = let z : _≡_ {A = ℕ} 0 1 = cc in absurd (omega arith)
+then-fine-right (refused number place) w e = absurd (fine-refuses-nothing number place e)
 
 pub then-fine : (v w : Verdict) → (v then w) ≡ fine → (v ≡ fine) × (w ≡ fine)
 then-fine v w e = (then-fine-left v w e, then-fine-right v w e)
@@ -34,9 +36,14 @@ pub then-refused : (v w : Verdict) (number place : ℕ) → v ≡ refused number
 unfolding _then_
 then-refused v w number place e = rw e
 
+pub then-assoc : (u v w : Verdict) → ((u then v) then w) ≡ (u then v then w)
+unfolding _then_
+then-assoc fine v w = refl
+then-assoc (refused number place) v w = refl
+
 pub refuse-if-fine : (test : Bool) (number place : ℕ) → refuseIf test number place ≡ fine → test ≡ false
 unfolding refuseIf
-refuse-if-fine true number place e = let z : _≡_ {A = ℕ} 0 1 = cc in absurd (omega arith)
+refuse-if-fine true number place e = absurd (fine-refuses-nothing number place e)
 refuse-if-fine false number place e = refl
 
 pub refuse-if-passed : (test : Bool) (number place : ℕ) → test ≡ false → refuseIf test number place ≡ fine
@@ -53,26 +60,37 @@ module _ (number : ℕ) (bad : ℕ → Bool) (n : ℕ) where
   unfolding refuseFirst
   refuse-first-fine e k h = first-clear bad n (ltb-false (first bad n) n (refuse-if-fine _ _ _ e)) k h
 
-  -- the search for a bad entry came to the end
-  pub refuse-first-passed : n ≤ first bad n → refuseFirst number bad n ≡ fine
+  -- a search that came to the end
+  pub refuse-first-none : (place : ℕ) → place ≡ first bad n → n ≤ place → refuseFirst number bad n ≡ fine
   unfolding refuseFirst
-  refuse-first-passed h = refuse-if-passed _ number (first bad n) (le-ltb (first bad n) n h)
+  refuse-first-none place e h = refuse-if-passed _ number (first bad n) (le-ltb (first bad n) n (omega arith))
 
-  -- it did not: "lowest place"
-  pub refuse-first-refused : first bad n < n → refuseFirst number bad n ≡ refused number (first bad n)
+  -- and one that did not: "lowest place"
+  pub refuse-first-at : (place : ℕ) → place ≡ first bad n → place < n → refuseFirst number bad n ≡ refused number place
   unfolding refuseFirst
-  refuse-first-refused h = refuse-if-refused _ number (first bad n) (lt-ltb (first bad n) n h)
+  refuse-first-at place e h = refuse-if-refused _ number (first bad n) (lt-ltb (first bad n) n (omega arith)) ∙ rw e
 
-pub given-fine : (v : Verdict) (a : Answer) → v ≡ fine → given v refusal a ≡ a
-unfolding given
-given-fine v a e = rw e
+module _ {A : Type 0} (onRefusal : ℕ → ℕ → A) (a : A) where
+  pub given-fine : (v : Verdict) → v ≡ fine → given v onRefusal a ≡ a
+  unfolding given
+  given-fine v e = rw e
 
-pub given-refused : (v : Verdict) (a : Answer) (number place : ℕ) → v ≡ refused number place → given v refusal a ≡ refusal number place
-unfolding given
-given-refused v a number place e = rw e
+  pub given-refused : (v : Verdict) (number place : ℕ) → v ≡ refused number place → given v onRefusal a ≡ onRefusal number place
+  unfolding given
+  given-refused v number place e = rw e
+
+  -- what is given where a first part is fine, and where it refuses
+  pub given-passed : (v w : Verdict) → v ≡ fine → given (v then w) onRefusal a ≡ given w onRefusal a
+  given-passed v w e = rw (then-passed v w e)
+
+  pub given-stopped : (v w : Verdict) (number place : ℕ) → v ≡ refused number place → given (v then w) onRefusal a ≡ onRefusal number place
+  given-stopped v w number place e = given-refused (v then w) number place (then-refused v w number place e)
+
+pub refusal-admits-nothing : (number place : ℕ) → refusal number place ≡ admitted → ⊥
+refusal-admits-nothing number place e = let z : _≡_ {A = ℕ} 0 1 = cc in omega arith
 
 -- an answer that is no refusal comes from a verdict that is none
 pub given-admitted : (v : Verdict) → given v refusal admitted ≡ admitted → v ≡ fine
 unfolding given
 given-admitted fine e = refl
-given-admitted (refused number place) e = let z : _≡_ {A = ℕ} 0 1 = cc in absurd (omega arith)
+given-admitted (refused number place) e = absurd (refusal-admits-nothing number place e)

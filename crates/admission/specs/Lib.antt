@@ -1,0 +1,2 @@
+-- The stages in which the code admits a contract.
+pub mod Stages

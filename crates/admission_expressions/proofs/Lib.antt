@@ -1,0 +1,2 @@
+-- Lemmas that the proofs of this crate's functions cite.
+pub mod NodeUses

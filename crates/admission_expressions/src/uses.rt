@@ -1,0 +1,96 @@
+// What a node uses, directly or below: for every node at once, in one ascending pass, so that a shared node is never
+// followed again.
+use crate::nodes::reference_count;
+use admission_tables::reading::number_at;
+use admission_tables::reading::test_at;
+use tables::Node;
+use tables::node_at;
+ghost use mathlib.Core.Path.{_≡_};
+ghost use mathlib.Core.Bool.{false};
+ghost use Prim.Native.Nat.{max};
+ghost use lib.ListN.{replicate};
+ghost use Rattle.model.specs.Tables.{nodeCount};
+ghost use Rattle.tables.specs.Tuples.{nodeOf};
+ghost use Rattle.admission_expressions.specs.Uses.{GoodNodes, greatestOver, callOver, GreatestKnown, CallsKnown};
+
+fn zeros() -> [u16; 256]
+    ensures { λ r. ⌜ r ≡ replicate 256 0 ⌝ }
+{
+    [0u16; 256]
+}
+
+fn no_tests() -> [bool; 256]
+    ensures { λ r. ⌜ r ≡ replicate 256 false ⌝ }
+{
+    [false; 256]
+}
+
+fn greater(a: u16, b: u16) -> u16
+    ensures { λ r. ⌜ r ≡ max a b ⌝ }
+{
+    if a < b {
+        return b;
+    }
+    a
+}
+
+// The greatest parameter that a node uses, from those that the nodes below it use.
+fn greatest_of(counts: &[u16], smaller: &[u16], node: Node) -> u16
+    ensures { λ r. ⌜ r ≡ greatestOver (now (counts .entry)) (now (smaller .entry)) (nodeOf node) ⌝ }
+{
+    if node.tag == 0 {
+        return node.name;
+    }
+    let used = reference_count(counts, node);
+    if used == 0 {
+        return 0;
+    }
+    let first = number_at(smaller, node.first as usize);
+    if used == 1 {
+        return first;
+    }
+    greater(first, number_at(smaller, node.second as usize))
+}
+
+// The greatest parameter that each node uses.
+pub fn greatest_parameters(counts: &[u16], nodes: &[u16]) -> [u16; 256]
+    requires { ⌜ GoodNodes (now counts) (now nodes) ⌝ }
+    ensures { λ r. ⌜ GreatestKnown (now (counts .entry)) (now (nodes .entry)) (nodeCount (now (nodes .entry))) r ⌝ }
+{
+    let n = nodes.len() / 5;
+    let mut greatest = zeros();
+    let mut k = 0;
+    while k < n {
+        greatest[k] = greatest_of(counts, &greatest, node_at(nodes, k));
+        k += 1;
+    }
+    greatest
+}
+
+// A node holds a call, by whether the nodes below it do.
+fn call_of(counts: &[u16], smaller: &[bool], node: Node) -> bool
+    ensures { λ r. ⌜ r ≡ callOver (now (counts .entry)) (now (smaller .entry)) (nodeOf node) ⌝ }
+{
+    if node.tag == 2 {
+        return true;
+    }
+    if reference_count(counts, node) == 0 {
+        return false;
+    }
+    test_at(smaller, node.first as usize) | test_at(smaller, node.second as usize)
+}
+
+// Whether each node holds a call.
+pub fn calls_held(counts: &[u16], nodes: &[u16]) -> [bool; 256]
+    requires { ⌜ GoodNodes (now counts) (now nodes) ⌝ }
+    ensures { λ r. ⌜ CallsKnown (now (counts .entry)) (now (nodes .entry)) (nodeCount (now (nodes .entry))) r ⌝ }
+{
+    let n = nodes.len() / 5;
+    let mut calls = no_tests();
+    let mut k = 0;
+    while k < n {
+        calls[k] = call_of(counts, &calls, node_at(nodes, k));
+        k += 1;
+    }
+    calls
+}

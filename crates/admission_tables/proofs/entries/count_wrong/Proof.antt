@@ -1,0 +1,13 @@
+-- `count_wrong` is its definition over the count that is read.
+use borrow.Author.Needs.{needs}
+use Rattle.admission_tables.proofs.entries.count_wrong.Statement.{statement}
+use Rattle.admission_tables.proofs.entries.count_wrong.Tie as tie
+
+number-at-requires : tie.Need-number-at-requires
+number-at-requires c κs = search needs
+
+returns : tie.Need-returns
+returns c = rw (c .number-at .ensures)
+
+pub count-wrong-spec : {M : Type 1} → statement M
+count-wrong-spec = tie.close (tie.spec number-at-requires returns)

@@ -1,0 +1,40 @@
+// Numbers read at any place, and the search among tests that are worked out beforehand.
+ghost use mathlib.Core.Path.{_≡_};
+ghost use mathlib.Core.Bool.{false};
+ghost use lib.ListN.{length, getD};
+ghost use Rattle.foundation.specs.Search.{first};
+
+// The number at a place of a table, and 0 past its end.
+pub fn number_at(table: &[u16], k: usize) -> u16
+    ensures { λ r. ⌜ r ≡ getD (now (table .entry)) k 0 ⌝ }
+{
+    if k < table.len() {
+        return table[k];
+    }
+    0
+}
+
+// The test at a place of a table, false past its end.
+pub fn test_at(tests: &[bool], k: usize) -> bool
+    ensures { λ r. ⌜ r ≡ getD (now (tests .entry)) k false ⌝ }
+{
+    if k < tests.len() {
+        return tests[k];
+    }
+    false
+}
+
+// The first test that holds, or how many tests there are.
+pub fn first_true(tests: &[bool]) -> usize
+    ensures { λ r. ⌜ r ≡ first (λ k. getD (now (tests .entry)) k false) (length (now (tests .entry))) ⌝ }
+{
+    let n = tests.len();
+    let mut k = 0;
+    while k < n {
+        if test_at(tests, k) {
+            return k;
+        }
+        k += 1;
+    }
+    n
+}

@@ -1,0 +1,210 @@
+-- What the code asks of its tables, and that a prepared contract has it.
+use mathlib.Core.Path.{_≡_, refl, ap, subst, sym, _∙_}
+use mathlib.Core.List.{List, [], _∷_, _++_}
+use Prim.Native.Nat.{ℕ, zero, suc, _+_, _*_, _-_, _/_, _^_, _<_, _≤_}
+use native.Mathlib.Nat.{pow-le-pow-right, mul-le-mul-right, mul-le-mul-left, one-le-pow}
+use native.Mathlib.Omega.{arith}
+use native.Mathlib.Decide.{ℕ-discrete}
+use lib.ListN.{length, getD, take}
+use Rattle.model.specs.Tables.{Contract, contract, InputRow, inputRow, inputRowCount, Node, nodeAt, nodeCount, Rule, ruleAt, ruleCount, countOf}
+use Rattle.model.specs.Kinds.{nextKind}
+use Rattle.model.specs.Admission.{tableLength, references}
+use Rattle.model.proofs.Laws.Established.{Established, GoodNode, good-parameter, good-nothing, good-symbol, good-call, GoodRule, GoodInputRow}
+use Rattle.kind_words.specs.Lanes.{Sized, Laid}
+use Rattle.kind_words.specs.Called.{pow-one, pow-two}
+use Rattle.kind_words.specs.Listed.{Layout, ListOf}
+use Rattle.kind_words.specs.Kind.{Prepared, listed, lanes-fit, some-states, offset-inside}
+
+-- words of lanes over at most four states
+pub record LayoutFits (lay : Layout) : Type 0 where
+  pub laid : Laid (lay .states) (lay .width) (lay .ones) (lay .starts)
+  pub some : 1 ≤ lay .states
+  pub few : lay .states ≤ 4
+
+-- the output table has room for a symbol's states, all below the count of states
+pub record OutputFits (lay : Layout) (table : List ℕ) (name : ℕ) : Type 0 where
+  pub layout : LayoutFits lay
+  pub entry : (k : ℕ) → getD table k 0 < lay .states
+  pub leaf : 0 < length table
+  pub small : name < 16
+  pub room : 1 ≤ name → 1 + (name - 1) * lay .states * lay .states + lay .states * lay .states ≤ length table
+
+-- a procedure of that count has its facts from a number on
+pub record ProcedureFits (lay : Layout) (count number : ℕ) : Type 0 where
+  pub layout : LayoutFits lay
+  pub parameters : count ≤ 2
+  pub narrow : lay .states ^ count ≤ lay .width
+  pub inside : number < 256
+
+-- the tables from which the words of nodes are computed
+pub record NodesFit (lay : Layout) (offsets counts table nodes : List ℕ) : Type 0 where
+  pub symbols : ℕ
+  pub layout : LayoutFits lay
+  pub fewSymbols : symbols ≤ 16
+  pub tableLong : length table ≡ tableLength symbols (lay .states)
+  pub entry : (k : ℕ) → getD table k 0 < lay .states
+  pub procedures : length counts ≤ 16
+  pub procedure : (p : ℕ) → p < length counts → ProcedureFits lay (countOf counts p) (getD offsets p 0)
+  pub fewNodes : nodeCount nodes ≤ 256
+  pub node : (n : ℕ) → n < nodeCount nodes → GoodNode symbols counts n (nodeAt nodes n)
+
+-- the rules
+pub record RulesFit (lay : Layout) (offsets counts rules : List ℕ) : Type 0 where
+  pub layout : LayoutFits lay
+  pub procedures : length counts ≤ 16
+  pub procedure : (p : ℕ) → p < length counts → ProcedureFits lay (countOf counts p) (getD offsets p 0)
+  pub isProcedure : (r : ℕ) → r < ruleCount rules → ruleAt rules r .procedure < length counts
+  pub isNode : (r : ℕ) → r < ruleCount rules → ruleAt rules r .node < 256
+
+-- the input rows
+pub record RowsFit (rows : List ℕ) : Type 0 where
+  pub state : (r : ℕ) → r < inputRowCount rows → inputRow rows r .state < 32
+  pub left : (r : ℕ) → r < inputRowCount rows → inputRow rows r .left < 32
+  pub right : (r : ℕ) → r < inputRowCount rows → inputRow rows r .right < 32
+
+-- the list of symbol s
+pub record ListFits (reached lengths nodes : List ℕ) (s : ℕ) : Type 0 where
+  pub symbol : s < 16
+  pub few : getD lengths s 0 ≤ 256
+  pub isNode : (i : ℕ) → i < getD lengths s 0 → listed reached s i < nodeCount nodes
+
+module _ {lay : Layout} {offsets counts table nodes : List ℕ} (fit : NodesFit lay offsets counts table nodes) (n : ℕ) (h : n < nodeCount nodes) where
+  abbrev node : Node
+  node = nodeAt nodes n
+
+  -- what follows from a node's being good, by its tag
+  pub is-call : (node .tag ≡ 0 → ⊥) → (node .tag ≡ 1 → ⊥) → node .tag ≡ 2
+  is-call h0 h1 = go (fit .node n h)
+    where
+      go : GoodNode (fit .symbols) counts n node → node .tag ≡ 2
+      go (good-parameter t a b) = absurd (h0 t)
+      go (good-nothing t z) = absurd (h1 t)
+      go (good-symbol t a b c d) = absurd (h1 t)
+      go (good-call t a b c d) = t
+
+  pub output-fits : node .tag ≡ 1 → OutputFits lay table (node .name)
+  output-fits e =
+      record { layout = fit .layout; entry = fit .entry; leaf = omega (arith, fit .tableLong); small = small (fit .node n h); room = room (fit .node n h) }
+    where
+      small : GoodNode (fit .symbols) counts n node → node .name < 16
+      small (good-parameter t a b) = absurd (omega arith)
+      small (good-nothing t z) = omega arith
+      small (good-symbol t a b c d) = omega (arith, fit .fewSymbols)
+      small (good-call t a b c d) = absurd (omega arith)
+
+      room : GoodNode (fit .symbols) counts n node → 1 ≤ node .name
+          → 1 + (node .name - 1) * lay .states * lay .states + lay .states * lay .states ≤ length table
+      room (good-parameter t a b) l = absurd (omega arith)
+      room (good-nothing t z) l = absurd (omega arith)
+      room (good-symbol t a b c d) l =
+          let x : suc (node .name - 1) ≤ fit .symbols - 1 = omega arith in
+          let y : suc (node .name - 1) * lay .states ≤ (fit .symbols - 1) * lay .states = mul-le-mul-right (lay .states) x in
+          let z : suc (node .name - 1) * lay .states * lay .states ≤ (fit .symbols - 1) * lay .states * lay .states = mul-le-mul-right (lay .states) y in
+          omega (arith, fit .tableLong)
+      room (good-call t a b c d) l = absurd (omega arith)
+
+  pub output-nodes : node .tag ≡ 1 → 1 ≤ node .name → (node .first < 256) × (node .second < 256)
+  output-nodes e l = go (fit .node n h)
+    where
+      go : GoodNode (fit .symbols) counts n node → (node .first < 256) × (node .second < 256)
+      go (good-parameter t a b) = absurd (omega arith)
+      go (good-nothing t z) = absurd (omega arith)
+      go (good-symbol t a b c d) = (omega (arith, fit .fewNodes), omega (arith, fit .fewNodes))
+      go (good-call t a b c d) = absurd (omega arith)
+
+  pub called-procedure : node .tag ≡ 2 → node .name < length counts
+  called-procedure e = go (fit .node n h)
+    where
+      go : GoodNode (fit .symbols) counts n node → node .name < length counts
+      go (good-parameter t a b) = absurd (omega arith)
+      go (good-nothing t z) = absurd (omega arith)
+      go (good-symbol t a b c d) = absurd (omega arith)
+      go (good-call t a b c d) = a
+
+  pub call-nodes : node .tag ≡ 2 → (1 ≤ countOf counts (node .name) → node .first < 256) × (2 ≤ countOf counts (node .name) → node .second < 256)
+  call-nodes e = go (fit .node n h)
+    where
+      go : GoodNode (fit .symbols) counts n node → (1 ≤ countOf counts (node .name) → node .first < 256) × (2 ≤ countOf counts (node .name) → node .second < 256)
+      go (good-parameter t a b) = absurd (omega arith)
+      go (good-nothing t z) = absurd (omega arith)
+      go (good-symbol t a b c d) = absurd (omega arith)
+      go (good-call t a b c d) = (λ l. omega (arith, fit .fewNodes, c l), λ l. omega (arith, fit .fewNodes, d l))
+
+-- a contract that these tables are prepared for: its sizes and marks stand in no promise on kinds
+pub record Ready (lay : Layout) (offsets reached lengths counts rows table nodes rules : List ℕ) : Type 0 where
+  pub symbols : ℕ
+  pub inputStates : ℕ
+  pub inputMarks : List ℕ
+  pub outputMarks : List ℕ
+  pub prepared : Prepared (contract symbols inputStates (lay .states) counts rows inputMarks table outputMarks nodes rules) lay offsets reached lengths
+
+module _ {lay : Layout} {offsets reached lengths counts rows table nodes rules : List ℕ}
+    (ready : Ready lay offsets reached lengths counts rows table nodes rules) where
+  abbrev C : Contract
+  C = contract (ready .symbols) (ready .inputStates) (lay .states) counts rows (ready .inputMarks) table (ready .outputMarks) nodes rules
+
+  abbrev known : Established C
+  known = ready .prepared .established
+
+  layout-fits : LayoutFits lay
+  layout-fits =
+      record {
+        laid =
+            record {
+              sized =
+                  record {
+                    some = rw (ready .prepared .layout .width) (one-le-pow (ready .prepared .layout .greatest) (lay .states) (known .outputStates .least≤));
+                    fit =
+                        rw (ready .prepared .layout .width)
+                        (lanes-fit (lay .states) (ready .prepared .layout .greatest) (known .outputStates .least≤) (known .outputStates .≤most) (ready .prepared .layout .most));
+                  };
+              lane = rw (ready .prepared .layout .width) (ready .prepared .layout .lanes .lane);
+              firsts = rw (ready .prepared .layout .width) (ready .prepared .layout .lanes .firsts);
+            };
+        some = known .outputStates .least≤;
+        few = known .outputStates .≤most;
+      }
+
+  procedure-fits : (p : ℕ) → p < length counts → ProcedureFits lay (countOf counts p) (getD offsets p 0)
+  procedure-fits p h =
+      record {
+        layout = layout-fits;
+        parameters = known .count p;
+        narrow = rw (ready .prepared .layout .width) (pow-le-pow-right (known .outputStates .least≤) (ready .prepared .layout .bound p));
+        inside = rw (ready .prepared .place p h) (offset-inside C known p h);
+      }
+
+  pub nodes-fit : NodesFit lay offsets counts table nodes
+  nodes-fit =
+      record {
+        symbols = ready .symbols;
+        layout = layout-fits;
+        fewSymbols = known .symbols .≤most;
+        tableLong = known .outputTable;
+        entry = known .outputEntry;
+        procedures = known .procedures .≤most;
+        procedure = procedure-fits;
+        fewNodes = known .nodes .few;
+        node = known .node;
+      }
+
+  pub rules-fit : RulesFit lay offsets counts rules
+  rules-fit =
+      record {
+        layout = layout-fits;
+        procedures = known .procedures .≤most;
+        procedure = procedure-fits;
+        isProcedure = λ r h. known .rule r h .procedure;
+        isNode = λ r h. omega (arith, known .rule r h .node, known .nodes .few);
+      }
+
+  pub rows-fit : RowsFit rows
+  rows-fit =
+      record {
+        state = λ r h. omega (arith, known .inputRow r h .state, known .inputStates .≤most);
+        left = λ r h. omega (arith, known .inputRow r h .left, known .inputStates .≤most);
+        right = λ r h. omega (arith, known .inputRow r h .right, known .inputStates .≤most);
+      }
+
+  pub list-fits : (s : ℕ) → s < 16 → ListFits reached lengths nodes s
+  list-fits s h = record { symbol = h; few = ready .prepared .lists .few s h; isNode = ready .prepared .lists .list s h .isNode }

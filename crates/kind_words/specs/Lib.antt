@@ -1,0 +1,11 @@
+-- The table form of a kind, bit by bit, up to the model's `nextKind`.
+pub mod Lanes
+pub mod Blocks
+pub mod Nodes
+pub mod Called
+pub mod Listed
+pub mod Rules
+pub mod States
+pub mod Kind
+pub mod Ends
+pub mod Fits

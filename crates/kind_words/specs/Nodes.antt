@@ -1,0 +1,236 @@
+-- The word of a node, all assignments of parameter states at once, from the words of the nodes that it refers to.
+use mathlib.Core.Path.{_≡_, refl, ap, ap₂, sym, _∙_}
+use mathlib.Core.List.{List, [], _∷_}
+use mathlib.Core.Bool.{Bool, true, false, cond}
+use Prim.Native.Nat.{ℕ, zero, suc, _+_, _*_, _-_, _/_, _^_, _<_, _≤_, max}
+use native.Mathlib.Omega.{arith}
+use native.Mathlib.Decide.{ℕ-discrete}
+use borrow.Author.Tests.{eq-eqb, ne-eqb}
+use lib.Dec.{eqb}
+use lib.Pow.{pow-pos}
+use lib.ListN.{length, getD}
+use lib.Bits.{bitAnd}
+use Rattle.foundation.specs.Words.{bit}
+use Rattle.foundation.specs.Tests.{_and_, same, below, someBelow, some-cong}
+use Rattle.foundation.specs.TestLaws.{true-and}
+use Rattle.foundation.specs.Bits.{bit-ones}
+use Rattle.model.specs.Tables.{Transformation, OutputType, Node, nodeAt, countOf, emptyState, nextState}
+use Rattle.model.specs.Expressions.{Child, Expression, childOf, argumentsOf, expression, greatestParameter, greatestOfAll}
+use Rattle.model.specs.Facts.{FactSet, yields, yieldsAll, digits}
+use Rattle.model.specs.Admission.{references}
+use Rattle.model.proofs.Laws.Expressions.{expression-parameter, expression-nothing, expression-symbol, expression-call, SmallerArguments}
+use Rattle.model.proofs.Laws.Established.{GoodNode, good-parameter, good-nothing, good-symbol, good-call}
+use Rattle.kind_words.specs.Lanes.{Lanes, lanes-eq, Starts, symbolWord, symbol-lanes, callTwo, callOne, two-lanes, one-lanes, lane-times, lane-at}
+
+-- the word of an output symbol over the words a and b of its two nodes
+abbrev pub outputWord : (o l ones : ℕ) (table : List ℕ) (name a b : ℕ) → ℕ
+outputWord o l ones table name a b =
+    cond (eqb name 0) (ones * 2 ^ (getD table 0 0 * l)) (symbolWord o l a b (λ x y. getD table (1 + (name - 1) * o * o + x * o + y) 0) o)
+
+-- the word of a call of a procedure of that count, from its facts and the words a and b of the arguments
+abbrev pub callWord : (o l ones starts count called a b : ℕ) → ℕ
+callWord o l ones starts count called a b =
+    cond (eqb count 0) (ones * bitAnd (called / 2 ^ 0) starts)
+    (cond (eqb count 1) (callOne o l starts called a o) (callTwo o l starts called a b o))
+
+-- a node's word as the code computes it, by its tag
+unfoldable pub nodeWord : (o l ones starts : ℕ) (table : List ℕ) (tag name count called first second a b : ℕ) → ℕ
+nodeWord o l ones starts table tag name count called first second a b =
+    cond (eqb tag 0) (cond (eqb name 1) first second)
+    (cond (eqb tag 1) (outputWord o l ones table name a b) (callWord o l ones starts count called a b))
+
+module _ (T : Transformation) where
+  -- how many nodes a node refers to
+  abbrev pub referencesAt : ℕ → ℕ
+  referencesAt n = references (T .counts) (nodeAt (T .nodes) n)
+
+  symbol-references : (n : ℕ) → nodeAt (T .nodes) n .tag ≡ 1 → 1 ≤ nodeAt (T .nodes) n .name → referencesAt n ≡ 2
+  symbol-references n t h = rw (eq-eqb (nodeAt (T .nodes) n .tag) 1 t, ne-eqb (nodeAt (T .nodes) n .name) 0 (λ e. omega arith))
+
+  call-references : (n : ℕ) → nodeAt (T .nodes) n .tag ≡ 2 → referencesAt n ≡ countOf (T .counts) (nodeAt (T .nodes) n .name)
+  call-references n t =
+      rw (ne-eqb (nodeAt (T .nodes) n .tag) 1 (λ e. omega arith), eq-eqb (nodeAt (T .nodes) n .tag) 2 t)
+
+-- w is the word of parameter i, where there are K
+abbrev pub ParameterIs : (O K i w : ℕ) → Type 0
+ParameterIs O K i w = Lanes O (O ^ K) w (λ q c. below i (length (digits O K c)) and same q (getD (digits O K c) i 0))
+
+-- what is the same for all nodes: how lanes lie, and the words of the two parameters
+pub record LanesAre (O K ones starts first second : ℕ) : Type 0 where
+  pub lane : ones ≡ 2 ^ O ^ K - 1
+  pub firsts : Starts O (O ^ K) starts
+  pub firstIs : 1 ≤ K → ParameterIs O K 0 first
+  pub secondIs : 2 ≤ K → ParameterIs O K 1 second
+
+module _ (T : Transformation) (Y : OutputType) (facts : Child → FactSet) (K : ℕ) where
+  abbrev pub O : ℕ
+  O = Y .states
+
+  abbrev pub L : ℕ
+  L = O ^ K
+
+  abbrev node : ℕ → Node
+  node n = nodeAt (T .nodes) n
+
+  abbrev pub expressionAt : ℕ → Expression
+  expressionAt n = expression (T .counts) (T .nodes) n
+
+  -- node n gives state q at the parameter states qs
+  unfoldable pub nodeFact : ℕ → List ℕ → ℕ → Bool
+  nodeFact n qs q = yields T Y facts (expressionAt n) qs q
+
+  -- w is the word of node n, where the node uses no parameter above K
+  abbrev pub NodeIs : ℕ → ℕ → Type 0
+  NodeIs n w = greatestParameter (expressionAt n) ≤ K → Lanes O L w (λ q c. nodeFact n (digits O K c) q)
+
+  -- w has the facts of procedure p on a child: bit q * L + code of the parameter states
+  pub record CalledIs (c : Child) (p w : ℕ) : Type 0 where
+    pub none : countOf (T .counts) p ≡ 0 → (q : ℕ) → q < O → bit w (q * L + 0) ≡ facts c p q []
+    pub one : countOf (T .counts) p ≡ 1 → (q x : ℕ) → q < O → x < O → bit w (q * L + x) ≡ facts c p q (x ∷ [])
+    pub two : countOf (T .counts) p ≡ 2 → (q x y : ℕ) → q < O → x < O → y < O → bit w (q * L + (x * O + y)) ≡ facts c p q (x ∷ y ∷ [])
+
+  -- a and b are the words of the nodes that node n refers to
+  pub record ReferredIs (n a b : ℕ) : Type 0 where
+    pub first : 1 ≤ referencesAt T n → NodeIs (node n .first) a
+    pub second : 2 ≤ referencesAt T n → NodeIs (node n .second) b
+
+  parameter-node : (n i w : ℕ) → node n .tag ≡ 0 → node n .name ≡ suc i → (suc i ≤ K → ParameterIs O K i w) → NodeIs n w
+  unfolding nodeFact yields greatestParameter
+  parameter-node n i w t z h g =
+      let i′ : node n .name - 1 ≡ i = omega arith in
+      let e : expressionAt n ≡ Expression.parameter i = expression-parameter (T .counts) (T .nodes) n t ∙ ap Expression.parameter i′ in
+      rw e (h (rw e at g))
+
+  nothing-node : (n ones : ℕ) → ones ≡ 2 ^ L - 1 → node n .tag ≡ 1 → node n .name ≡ 0 → emptyState Y < O → NodeIs n (ones * 2 ^ (emptyState Y * L))
+  unfolding nodeFact yields
+  nothing-node n ones e t z h g =
+      lanes-eq O L (lane-at O L ones (emptyState Y) (omega (arith, pow-pos L)) h)
+      (λ q c hq hc.
+      true-and (bit ones c) _ (ap (λ (x : ℕ). bit x c) e ∙ bit-ones L c hc) ∙ sym (rw (expression-nothing (T .counts) (T .nodes) n t z)))
+
+  module _ (n a b : ℕ) (referred : ReferredIs n a b) where
+    symbol-node : (state : ℕ → ℕ → ℕ) → node n .tag ≡ 1 → 1 ≤ node n .name → node n .first < n → node n .second < n
+        → ((x y : ℕ) → x < O → y < O → state x y < O)
+        → ((x y : ℕ) → state x y ≡ nextState Y (node n .name) x y)
+        → NodeIs n (symbolWord O L a b state O)
+    unfolding nodeFact yields greatestParameter
+    symbol-node state t h hf hs small is g =
+        let e = expression-symbol (T .counts) (T .nodes) n t h hf hs in
+        let two = symbol-references T n t h in
+        let g′ = rw e at g in
+        let ia = referred .first (omega arith) (omega arith) in
+        let ib = referred .second (omega arith) (omega arith) in
+        lanes-eq O L (symbol-lanes O L a b state small)
+        (λ q c hq hc.
+        some-cong O _ _
+        (λ x hx.
+        ap₂ _and_ (ia .bits x c hx hc)
+        (some-cong O _ _ (λ y hy. ap₂ _and_ (ib .bits y c hy hc) (ap (λ (v : ℕ). same q v) (is x y)))))
+        ∙ sym (rw e))
+
+    -- the greatest parameter of the arguments of a call
+    arguments-greatest : (k : ℕ) (e f : Expression) → greatestOfAll (argumentsOf k e f) ≤ K
+        → (1 ≤ k → greatestParameter e ≤ K) × (2 ≤ k → greatestParameter f ≤ K)
+    unfolding greatestParameter
+    arguments-greatest zero e f h = (λ l. absurd (omega arith), λ l. absurd (omega arith))
+    arguments-greatest (suc zero) e f h = (λ l. omega arith, λ l. absurd (omega arith))
+    arguments-greatest (suc (suc k)) e f h = (λ l. omega arith, λ l. omega arith)
+
+    module _ (starts w : ℕ) (firsts : Starts O L starts) (some : 0 < L) (t : node n .tag ≡ 2) (smaller : SmallerArguments (T .counts) (T .nodes) n)
+        (called : CalledIs (childOf (node n .child)) (node n .name) w) where
+      abbrev count : ℕ
+      count = countOf (T .counts) (node n .name)
+
+      call-expression : expressionAt n ≡ Expression.call (node n .name) (childOf (node n .child)) (argumentsOf count (expressionAt (node n .first)) (expressionAt (node n .second)))
+      call-expression = expression-call (T .counts) (T .nodes) n t smaller
+
+      greatest : greatestParameter (expressionAt n) ≤ K
+          → (1 ≤ count → greatestParameter (expressionAt (node n .first)) ≤ K) × (2 ≤ count → greatestParameter (expressionAt (node n .second)) ≤ K)
+      unfolding greatestParameter
+      greatest g = arguments-greatest count _ _ (rw call-expression at g)
+
+      two-node : count ≡ 2 → NodeIs n (callTwo O L starts w a b O)
+      unfolding nodeFact yields
+      two-node k g =
+          let r = call-references T n t in
+          let ia = referred .first (omega arith) (greatest g .0 (omega arith)) in
+          let ib = referred .second (omega arith) (greatest g .1 (omega arith)) in
+          lanes-eq O L (two-lanes O L starts firsts some w a b)
+          (λ q c hq hc.
+          some-cong O _ _
+          (λ x hx.
+          ap₂ _and_ (ia .bits x c hx hc) (some-cong O _ _ (λ y hy. ap₂ _and_ (ib .bits y c hy hc) (called .two k q x y hq hx hy))))
+          ∙ sym (rw (call-expression, k)))
+
+      one-node : count ≡ 1 → NodeIs n (callOne O L starts w a O)
+      unfolding nodeFact yields
+      one-node k g =
+          let r = call-references T n t in
+          let ia = referred .first (omega arith) (greatest g .0 (omega arith)) in
+          lanes-eq O L (one-lanes O L starts firsts some w a)
+          (λ q c hq hc.
+          some-cong O _ _ (λ x hx. ap₂ _and_ (ia .bits x c hx hc) (called .one k q x hq hx)) ∙ sym (rw (call-expression, k)))
+
+      none-node : (ones : ℕ) → ones ≡ 2 ^ L - 1 → count ≡ 0 → NodeIs n (ones * bitAnd (w / 2 ^ 0) starts)
+      unfolding nodeFact yields
+      none-node ones e k g =
+          lanes-eq O L (lane-times O L ones w starts 0 (omega (arith, pow-pos L)) firsts some)
+          (λ q c hq hc.
+          true-and (bit ones c) _ (ap (λ (x : ℕ). bit x c) e ∙ bit-ones L c hc) ∙ called .none k q hq ∙ sym (rw (call-expression, k)))
+
+  -- the code's word is the node's
+  pub node-word-is : (S n w ones starts first second a b : ℕ) → LanesAre O K ones starts first second → 0 < L
+      → ((k : ℕ) → getD (Y .table) k 0 < O)
+      → ((p : ℕ) → countOf (T .counts) p ≤ 2)
+      → GoodNode S (T .counts) n (node n)
+      → ReferredIs n a b
+      → (node n .tag ≡ 2 → CalledIs (childOf (node n .child)) (node n .name) w)
+      → NodeIs n (nodeWord O L ones starts (Y .table) (node n .tag) (node n .name) (countOf (T .counts) (node n .name)) w first second a b)
+  unfolding nodeWord
+  node-word-is S n w ones starts first second a b lanes some entry few good referred called = by-tag good
+    where
+      W : ℕ
+      W = nodeWord O L ones starts (Y .table) (node n .tag) (node n .name) (countOf (T .counts) (node n .name)) w first second a b
+
+      by-parameter : node n .tag ≡ 0 → 1 ≤ node n .name → node n .name ≤ 2 → Dec (node n .name ≡ 1) → NodeIs n W
+      by-parameter t h1 h2 (yes z) =
+          rw (eq-eqb (node n .tag) 0 t, eq-eqb (node n .name) 1 z) (parameter-node n 0 first t z (lanes .firstIs))
+      by-parameter t h1 h2 (no nz) =
+          rw (eq-eqb (node n .tag) 0 t, ne-eqb (node n .name) 1 nz) (parameter-node n 1 second t (omega arith) (lanes .secondIs))
+
+      by-count : node n .tag ≡ 2 → SmallerArguments (T .counts) (T .nodes) n → Dec (countOf (T .counts) (node n .name) ≡ 0)
+          → Dec (countOf (T .counts) (node n .name) ≡ 1)
+          → NodeIs n W
+      by-count t s (yes z) d =
+          rw (ne-eqb (node n .tag) 0 (λ e. omega arith), ne-eqb (node n .tag) 1 (λ e. omega arith), eq-eqb (countOf (T .counts) (node n .name)) 0 z)
+          (none-node n a b referred starts w (lanes .firsts) some t s (called t) ones (lanes .lane) z)
+      by-count t s (no nz) (yes z) =
+          rw (
+            ne-eqb (node n .tag) 0 (λ e. omega arith),
+            ne-eqb (node n .tag) 1 (λ e. omega arith),
+            ne-eqb (countOf (T .counts) (node n .name)) 0 nz,
+            eq-eqb (countOf (T .counts) (node n .name)) 1 z,
+          )
+          (one-node n a b referred starts w (lanes .firsts) some t s (called t) z)
+      by-count t s (no nz) (no n1) =
+          rw (
+            ne-eqb (node n .tag) 0 (λ e. omega arith),
+            ne-eqb (node n .tag) 1 (λ e. omega arith),
+            ne-eqb (countOf (T .counts) (node n .name)) 0 nz,
+            ne-eqb (countOf (T .counts) (node n .name)) 1 n1,
+          )
+          (two-node n a b referred starts w (lanes .firsts) some t s (called t) (omega (arith, few (node n .name))))
+
+      by-tag : GoodNode S (T .counts) n (node n) → NodeIs n W
+      by-tag (good-parameter t h1 h2) = by-parameter t h1 h2 (ℕ-discrete (node n .name) 1)
+      by-tag (good-nothing t z) =
+          rw (ne-eqb (node n .tag) 0 (λ e. omega arith), eq-eqb (node n .tag) 1 t, eq-eqb (node n .name) 0 z)
+          (nothing-node n ones (lanes .lane) t z (entry 0))
+      by-tag (good-symbol t h hs hf hk) =
+          let is : (x y : ℕ) → getD (Y .table) (1 + (node n .name - 1) * O * O + x * O + y) 0 ≡ nextState Y (node n .name) x y =
+          λ x y. ap (λ (i : ℕ). getD (Y .table) i 0) (omega arith) in
+          rw (ne-eqb (node n .tag) 0 (λ e. omega arith), eq-eqb (node n .tag) 1 t, ne-eqb (node n .name) 0 (λ e. omega arith))
+          (symbol-node n a b referred _ t h hf hk (λ x y hx hy. entry _) is)
+      by-tag (good-call t hn hc hf hs) =
+          by-count t (record { first = hf; second = hs }) (ℕ-discrete (countOf (T .counts) (node n .name)) 0)
+          (ℕ-discrete (countOf (T .counts) (node n .name)) 1)

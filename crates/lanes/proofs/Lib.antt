@@ -1,0 +1,2 @@
+-- Arithmetic of lanes that fit into a word.
+pub mod Room

@@ -1,0 +1,2 @@
+-- What the code's layout of words stands for.
+pub mod Layouts

@@ -1,0 +1,189 @@
+// Words of lanes: a symbol and a call, for all assignments of parameter states at once.
+//
+// A word holds a lane of `width` bits for each output state, one bit for each assignment: bit q * width + c says that
+// state q is given at assignment c. `ones` is a lane of ones at state 0, `starts` the first bit of each lane.
+ghost use mathlib.Core.Path.{_≡_};
+ghost use Prim.Native.Nat.{ℕ, _+_, _*_, _-_, _/_, _^_, _<_, _≤_};
+ghost use lib.ListN.{getD};
+ghost use lib.Bits.{bitAnd};
+ghost use Rattle.kind_words.specs.Lanes.{Sized, Laid, StatesAt, symbolRow, symbolWord, callRow, callTwo, callOne};
+
+// How the words of a contract are laid out: its output states, the bits in a lane, a lane of ones at state 0, the first bit
+// of each lane, and the words of the first and the second parameter.
+pub struct Layout {
+    pub states: usize,
+    pub width: u64,
+    pub ones: u64,
+    pub starts: u64,
+    pub first: u64,
+    pub second: u64,
+}
+
+// A table entry as a word.
+pub fn wide(entry: u16) -> u64
+    ensures { λ r. ⌜ r ≡ entry ⌝ }
+{
+    entry as u64
+}
+
+// A table entry as a place.
+pub fn place(entry: u16) -> usize
+    ensures { λ r. ⌜ r ≡ entry ⌝ }
+{
+    entry as usize
+}
+
+// A word put some bits up, where it fits.
+pub fn up(word: u64, place: u64) -> u64
+    requires { ⌜ (place < 64) × (word * 2 ^ place < 2 ^ 64) ⌝ }
+    ensures { λ r. ⌜ r ≡ word * 2 ^ place ⌝ }
+{
+    word << place
+}
+
+// The bits of a word from a place on, under a mask.
+pub fn lane(word: u64, place: u64, ones: u64) -> u64
+    requires { ⌜ place < 64 ⌝ }
+    ensures { λ r. ⌜ r ≡ bitAnd (word / 2 ^ place) ones ⌝ }
+{
+    (word >> place) & ones
+}
+
+// A lane put at every state whose bit of `facts`, `place` further up, is set: the product copies it there.
+pub fn spread(lane: u64, facts: u64, place: u64, starts: u64) -> u64
+    requires { ⌜ (place < 64) × (lane * bitAnd (facts / 2 ^ place) starts < 2 ^ 64) ⌝ }
+    ensures { λ r. ⌜ r ≡ lane * bitAnd (facts / 2 ^ place) starts ⌝ }
+{
+    lane * ((facts >> place) & starts)
+}
+
+// An output symbol over one lane of its first word and all lanes of its second; the states stand in the table from `start`.
+pub fn symbol_row(
+    states: usize,
+    width: u64,
+    table: &[u16],
+    start: usize,
+    first: u64,
+    second: u64,
+) -> u64
+    requires { ⌜ Sized states width × StatesAt states start states (now table) × (first < 2 ^ width) ⌝ }
+    ensures { λ r. ⌜ r ≡ symbolRow states width first second (λ (y : ℕ). getD (now (table .entry)) (start + y) 0) states ⌝ }
+{
+    let mut word: u64 = 0;
+    let mut place: u64 = 0;
+    let mut y: usize = 0;
+    while y < states {
+        let state = wide(table[start + y]);
+        word = word | up(first & (second >> place), state * width);
+        place += width;
+        y += 1;
+    }
+    word
+}
+
+// An output symbol over two words.
+pub fn symbol_word(
+    states: usize,
+    width: u64,
+    ones: u64,
+    table: &[u16],
+    start: usize,
+    first: u64,
+    second: u64,
+) -> u64
+    requires { ⌜ Sized states width × StatesAt states start (states * states) (now table) × (ones ≡ 2 ^ width - 1) ⌝ }
+    ensures { λ r. ⌜ r ≡ symbolWord states width first second (λ (x : ℕ) (y : ℕ). getD (now (table .entry)) (start + x * states + y) 0) states ⌝ }
+{
+    let mut word: u64 = 0;
+    let mut place: u64 = 0;
+    let mut row: usize = start;
+    let mut x: usize = 0;
+    while x < states {
+        word = word | symbol_row(states, width, table, row, lane(first, place, ones), second);
+        place += width;
+        row += states;
+        x += 1;
+    }
+    word
+}
+
+// A call of a procedure of two parameters over one lane of its first argument; its facts stand from `start` on.
+pub fn call_row(
+    states: usize,
+    width: u64,
+    ones: u64,
+    starts: u64,
+    facts: u64,
+    start: u64,
+    first: u64,
+    second: u64,
+) -> u64
+    requires { ⌜ Laid states width ones starts × (start + states ≤ 64) × (first < 2 ^ width) ⌝ }
+    ensures { λ r. ⌜ r ≡ callRow states width starts facts first second start states ⌝ }
+{
+    let mut word: u64 = 0;
+    let mut place: u64 = 0;
+    let mut code: u64 = start;
+    let mut y: usize = 0;
+    while y < states {
+        word = word | spread(first & (second >> place), facts, code, starts);
+        place += width;
+        code += 1;
+        y += 1;
+    }
+    word
+}
+
+// A call of a procedure of two parameters: bit q * width + x * states + y of `facts` is its fact (q, x, y).
+pub fn call_two(
+    states: usize,
+    width: u64,
+    ones: u64,
+    starts: u64,
+    facts: u64,
+    first: u64,
+    second: u64,
+) -> u64
+    requires { ⌜ Laid states width ones starts × (states * states ≤ 64) ⌝ }
+    ensures { λ r. ⌜ r ≡ callTwo states width starts facts first second states ⌝ }
+{
+    let mut word: u64 = 0;
+    let mut place: u64 = 0;
+    let mut code: u64 = 0;
+    let mut x: usize = 0;
+    while x < states {
+        word = word
+            | call_row(
+                states,
+                width,
+                ones,
+                starts,
+                facts,
+                code,
+                lane(first, place, ones),
+                second,
+            );
+        place += width;
+        code += states as u64;
+        x += 1;
+    }
+    word
+}
+
+// A call of a procedure of one parameter: bit q * width + x of `facts` is its fact (q, x).
+pub fn call_one(states: usize, width: u64, ones: u64, starts: u64, facts: u64, first: u64) -> u64
+    requires { ⌜ Laid states width ones starts × (states ≤ 64) ⌝ }
+    ensures { λ r. ⌜ r ≡ callOne states width starts facts first states ⌝ }
+{
+    let mut word: u64 = 0;
+    let mut place: u64 = 0;
+    let mut code: u64 = 0;
+    let mut x: usize = 0;
+    while x < states {
+        word = word | spread(lane(first, place, ones), facts, code, starts);
+        place += width;
+        code += 1;
+        x += 1;
+    }
+    word
+}

@@ -1,0 +1,3 @@
+-- The words of a layout, and what they stand for.
+pub mod LaneWords
+pub mod Counts

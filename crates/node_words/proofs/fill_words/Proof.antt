@@ -1,0 +1,74 @@
+-- Invariant: the words are those after the first i places of the list. Measure: what is left of the list.
+use mathlib.Core.Path.{_≡_, refl, ap, sym, _∙_}
+use mathlib.Core.List.{List}
+use Prim.Native.Nat.{ℕ, _+_, _*_, _-_, _≤_, _<_}
+use native.Mathlib.Omega.{arith}
+use lib.ListN.{getD}
+use Rattle.model.specs.Tables.{nodeCount}
+use Rattle.lanes.specs.Layouts.{layoutOf}
+use Rattle.kind_words.specs.Listed.{nodeStep, filledTo, filled-none, filled-more}
+use Rattle.node_words.proofs.fill_words.Statement.{statement}
+use Rattle.node_words.proofs.fill_words.Tie as tie
+
+abbrev Inv-loop : tie.InvT-loop
+Inv-loop layout offsets reached counts table nodes start length left right words₀ i₀ words i = (i ≤ length) × (words ≡ filledTo (λ (w : List ℕ) (n : ℕ). nodeStep (layoutOf layout) offsets counts table nodes left right w n) (λ (k : ℕ). getD reached (start + k) 0) words₀ i)
+
+abbrev μ-loop : tie.MeasureT-loop
+μ-loop layout offsets reached counts table nodes start length left right words₀ i₀ words i = length - i
+
+loop-holds : tie.Need-loop-holds Inv-loop μ-loop
+loop-holds c = (omega arith, filled-none _ _ _)
+
+add-place : tie.Need-add-place Inv-loop μ-loop
+add-place c = omega (arith, c .before .before .before .before .before .pre .1)
+
+mul-place : tie.Need-mul-place Inv-loop μ-loop
+mul-place c = omega (arith, c .before .before .before .before .before .pre .1)
+
+element-copy-out-place : tie.Need-element-copy-out-place Inv-loop μ-loop
+element-copy-out-place c = omega (arith, c .before .before .before .before .before .pre .1)
+
+place-requires : tie.Need-place-requires Inv-loop μ-loop
+place-requires c κs = tt
+
+node-word-requires : tie.Need-node-word-requires Inv-loop μ-loop
+node-word-requires c κs = (c .before .before .before .before .before .before .before .before .pre .0, rw (c .before .place .ensures) (c .before .before .before .before .before .before .before .before .pre .2 (c .before .before .before .before .loop .i) (omega arith)))
+
+mul-words : tie.Need-mul-words Inv-loop μ-loop
+mul-words c = let h : c .before .before .place .result < nodeCount (c .before .before .before .before .before .before .before .before .before .args .nodes .now) = rw (c .before .before .place .ensures) (c .before .before .before .before .before .before .before .before .before .pre .2 (c .before .before .before .before .before .loop .i) (omega arith)) in
+    omega (arith, c .before .before .before .before .before .before .before .before .before .pre .0 .fewNodes)
+
+element-write-words : tie.Need-element-write-words Inv-loop μ-loop
+element-write-words c = let h : c .before .before .place .result < nodeCount (c .before .before .before .before .before .before .before .before .before .args .nodes .now) = rw (c .before .before .place .ensures) (c .before .before .before .before .before .before .before .before .before .pre .2 (c .before .before .before .before .before .loop .i) (omega arith)) in
+    omega (arith, c .before .before .before .before .before .before .before .before .before .pre .0 .fewNodes)
+
+add-i : tie.Need-add-i Inv-loop μ-loop
+add-i c = omega arith
+
+loop-less : tie.Need-loop-less Inv-loop μ-loop
+loop-less c = omega arith
+
+loop-again : tie.Need-loop-again Inv-loop μ-loop
+loop-again c = (omega arith, filled-more _ _ _ _ (c .before .before .before .before .before .loop .i) _ _ (c .before .before .before .before .before .loop .inv .1) (c .before .before .place .ensures) (c .node-word .ensures))
+
+returns : tie.Need-returns Inv-loop μ-loop
+returns c = let e : c .before .loop .i ≡ c .before .before .before .before .before .args .length = omega arith in rw e at (c .before .loop .inv .1)
+
+pub fill-words-spec : {M : Type 1} → statement M
+fill-words-spec =
+    tie.close
+    (tie.spec
+    Inv-loop
+    μ-loop
+    loop-holds
+    add-place
+    mul-place
+    element-copy-out-place
+    place-requires
+    node-word-requires
+    mul-words
+    element-write-words
+    add-i
+    loop-less
+    loop-again
+    returns)

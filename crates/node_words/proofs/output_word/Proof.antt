@@ -1,0 +1,97 @@
+-- A state's place fits into the word, and a symbol's states stand in the table; a node's word is read only where it is used.
+use mathlib.Core.Path.{_≡_, refl, ap, sym, _∙_}
+use mathlib.Core.List.{List}
+use Prim.Native.Nat.{ℕ, _+_, _*_, _-_, _/_, _^_, _≤_, _<_}
+use native.Mathlib.Omega.{arith}
+use lib.ListN.{length, getD}
+use lib.Pow.{pow-pos}
+use borrow.Author.Needs.{needs}
+use borrow.Author.Tests.{eq-eqb, ne-eqb}
+use Rattle.lanes.proofs.Room.{put-fits, ones-less, small-prod, square-small}
+use Rattle.kind_words.specs.Lanes.{Sized, StatesAt}
+use Rattle.node_words.proofs.output_word.Statement.{statement}
+use Rattle.node_words.proofs.output_word.Tie as tie
+
+shared-slice-read-wide : tie.Need-shared-slice-read-wide
+shared-slice-read-wide c = search needs
+
+wide-requires : tie.Need-wide-requires
+wide-requires c κs = search needs
+
+mul-up : tie.Need-mul-up
+mul-up c = let z : c .before .wide .result ≡ getD (c .before .before .before .before .before .before .args .table .now) 0 0 = c .before .wide .ensures in
+    let h : c .before .wide .result < c .before .before .before .before .before .before .args .layout .states = rw z (c .before .before .before .before .before .before .pre .0 .entry 0) in
+    omega (arith, put-fits (c .before .before .before .before .before .before .args .layout .states) (c .before .before .before .before .before .before .args .layout .width) 0 (c .before .wide .result) (c .before .before .before .before .before .before .pre .0 .layout .laid .sized) (pow-pos (c .before .before .before .before .before .before .args .layout .width)) h)
+
+up-requires : tie.Need-up-requires
+up-requires c κs = let z : c .before .wide .result ≡ getD (c .before .before .before .before .before .before .args .table .now) 0 0 = c .before .wide .ensures in
+    let h : c .before .wide .result < c .before .before .before .before .before .before .args .layout .states = rw z (c .before .before .before .before .before .before .pre .0 .entry 0) in
+    put-fits (c .before .before .before .before .before .before .args .layout .states) (c .before .before .before .before .before .before .args .layout .width) (c .before .before .before .before .before .before .args .layout .ones) (c .before .wide .result) (c .before .before .before .before .before .before .pre .0 .layout .laid .sized) (ones-less (c .before .before .before .before .before .before .args .layout .width) (c .before .before .before .before .before .before .args .layout .ones) (c .before .before .before .before .before .before .pre .0 .layout .laid .lane)) h
+
+returns : tie.Need-returns
+returns c = rw (eq-eqb (c .before .before .before .before .before .before .before .args .symbol .0) 0 (c .before .before .before .before .if1 .taken)) (c .up .ensures ∙ rw (c .before .before .wide .ensures))
+
+place-requires : tie.Need-place-requires
+place-requires c κs = search needs
+
+sub-start : tie.Need-sub-start
+sub-start c = search needs
+
+mul-start : tie.Need-mul-start
+mul-start c = omega (arith, small-prod (c .place .result - 1) (c .before .before .before .before .args .layout .states) (omega (arith, c .place .ensures, c .before .before .before .before .pre .0 .small)) (omega (arith, square-small (c .before .before .before .before .args .layout .states) (c .before .before .before .before .pre .0 .layout .few))))
+
+mul-start-2 : tie.Need-mul-start-2
+mul-start-2 c = omega (arith, small-prod (c .place .result - 1) (c .before .before .before .before .args .layout .states) (omega (arith, c .place .ensures, c .before .before .before .before .pre .0 .small)) (omega (arith, square-small (c .before .before .before .before .args .layout .states) (c .before .before .before .before .pre .0 .layout .few))))
+
+add-start : tie.Need-add-start
+add-start c = omega (arith, small-prod (c .place .result - 1) (c .before .before .before .before .args .layout .states) (omega (arith, c .place .ensures, c .before .before .before .before .pre .0 .small)) (omega (arith, square-small (c .before .before .before .before .args .layout .states) (c .before .before .before .before .pre .0 .layout .few))))
+
+place-requires-2 : tie.Need-place-requires-2
+place-requires-2 c κs = search needs
+
+mul-symbol-word : tie.Need-mul-symbol-word
+mul-symbol-word c = search needs
+
+element-copy-out-symbol-word : tie.Need-element-copy-out-symbol-word
+element-copy-out-symbol-word c = let h = c .before .before .before .before .before .pre .1 (omega arith) in
+    omega (arith, c .place2 .ensures)
+
+place-requires-3 : tie.Need-place-requires-3
+place-requires-3 c κs = search needs
+
+mul-symbol-word-2 : tie.Need-mul-symbol-word-2
+mul-symbol-word-2 c = search needs
+
+element-copy-out-symbol-word-2 : tie.Need-element-copy-out-symbol-word-2
+element-copy-out-symbol-word-2 c = let h = c .before .before .before .before .before .before .before .pre .1 (omega arith) in
+    omega (arith, c .place3 .ensures)
+
+symbol-word-requires : tie.Need-symbol-word-requires
+symbol-word-requires c κs = let e : c .before .before .before .before .place .result ≡ c .before .before .before .before .before .before .before .before .args .symbol .0 = c .before .before .before .before .place .ensures in
+    (c .before .before .before .before .before .before .before .before .pre .0 .layout .laid .sized, record { inside = rw e (c .before .before .before .before .before .before .before .before .pre .0 .room (omega arith)); states = λ k h. c .before .before .before .before .before .before .before .before .pre .0 .entry k }, c .before .before .before .before .before .before .before .before .pre .0 .layout .laid .lane)
+
+returns-2 : tie.Need-returns-2
+returns-2 c = rw (ne-eqb (c .before .before .before .before .before .before .before .before .before .args .symbol .0) 0 (c .before .before .before .before .before .before .if1 .left)) (c .symbol-word .ensures ∙ rw (c .before .before .before .before .before .place .ensures, c .before .before .before .before .place2 .ensures, c .before .before .place3 .ensures))
+
+pub output-word-spec : {M : Type 1} → statement M
+output-word-spec =
+    tie.close
+    (tie.spec
+    shared-slice-read-wide
+    wide-requires
+    mul-up
+    up-requires
+    returns
+    place-requires
+    sub-start
+    mul-start
+    mul-start-2
+    add-start
+    place-requires-2
+    mul-symbol-word
+    element-copy-out-symbol-word
+    place-requires-3
+    mul-symbol-word-2
+    element-copy-out-symbol-word-2
+    symbol-word-requires
+    returns-2)

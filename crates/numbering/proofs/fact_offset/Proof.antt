@@ -1,0 +1,58 @@
+-- `fact_offset`: the sum is the offset of the procedure reached, and at most 64 for each procedure passed; the measure is the
+-- procedures left. One procedure more is the law `offset-more`.
+use mathlib.Core.Path.{_≡_, sym}
+use Prim.Native.Nat.{_*_, _-_, _≤_}
+use native.Mathlib.Omega.{arith}
+use Rattle.model.specs.Facts.{offset}
+use Rattle.numbering.proofs.Offsets.{offset-zero, offset-more, facts-small}
+use Rattle.numbering.proofs.fact_offset.Statement.{statement}
+use Rattle.numbering.proofs.fact_offset.Tie as tie
+
+abbrev Inv-loop : tie.InvT-loop
+Inv-loop states counts procedure sum₀ p₀ sum p = (p ≤ procedure) × (sum ≡ offset states counts p) × (sum ≤ 64 * p)
+
+abbrev μ-loop : tie.MeasureT-loop
+μ-loop states counts procedure sum₀ p₀ sum p = procedure - p
+
+loop-holds : tie.Need-loop-holds Inv-loop μ-loop
+loop-holds c = (omega arith, sym (offset-zero (c .before .args .states) (c .before .args .counts .now)), omega arith)
+
+mul-facts-of : tie.Need-mul-facts-of Inv-loop μ-loop
+mul-facts-of c = omega arith
+
+shared-slice-read-facts-of : tie.Need-shared-slice-read-facts-of Inv-loop μ-loop
+shared-slice-read-facts-of c = omega arith
+
+facts-of-requires : tie.Need-facts-of-requires Inv-loop μ-loop
+facts-of-requires c κs = (c .before .before .before .before .pre .0 .states≤, c .before .before .before .before .pre .0 .count≤ (c .before .before .loop .p))
+
+add-sum : tie.Need-add-sum Inv-loop μ-loop
+add-sum c = let few = c .before .before .before .before .before .pre .0 .procedures≤ in omega (arith, facts-small _ _ _ (c .before .before .before .before .before .pre .0 .states≤) (c .before .before .before .before .before .pre .0 .count≤ (c .before .before .before .loop .p)) (c .facts-of .ensures))
+
+add-p : tie.Need-add-p Inv-loop μ-loop
+add-p c = omega arith
+
+loop-less : tie.Need-loop-less Inv-loop μ-loop
+loop-less c = omega arith
+
+loop-again : tie.Need-loop-again Inv-loop μ-loop
+loop-again c = (omega arith, offset-more (c .before .before .before .before .before .args .states) (c .before .before .before .before .before .args .counts .now) (c .before .before .before .loop .p) _ _ (omega arith) (c .before .before .before .loop .inv .1) (c .facts-of .ensures), omega (arith, facts-small _ _ _ (c .before .before .before .before .before .pre .0 .states≤) (c .before .before .before .before .before .pre .0 .count≤ (c .before .before .before .loop .p)) (c .facts-of .ensures)))
+
+returns : tie.Need-returns Inv-loop μ-loop
+returns c = let end : c .before .loop .p ≡ c .before .before .before .args .procedure = omega arith in rw (← end) (c .before .loop .inv .1)
+
+pub fact-offset-spec : {M : Type 1} → statement M
+fact-offset-spec =
+    tie.close
+    (tie.spec
+    Inv-loop
+    μ-loop
+    loop-holds
+    mul-facts-of
+    shared-slice-read-facts-of
+    facts-of-requires
+    add-sum
+    add-p
+    loop-less
+    loop-again
+    returns)

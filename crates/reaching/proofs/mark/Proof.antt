@@ -1,0 +1,28 @@
+-- Both sides of the test.
+use mathlib.Core.Path.{_≡_, refl, ap, sym, _∙_}
+use Prim.Native.Nat.{ℕ, _<_}
+use native.Mathlib.Omega.{arith}
+use borrow.Author.Needs.{needs}
+use Rattle.reaching.specs.Marks.{markedIf}
+use Rattle.reaching.proofs.mark.Statement.{statement}
+use Rattle.reaching.proofs.mark.Tie as tie
+
+place-requires : tie.Need-place-requires
+place-requires c κs = search needs
+
+mul-marks : tie.Need-mul-marks
+mul-marks c = search needs
+
+element-write-marks : tie.Need-element-write-marks
+element-write-marks c = let h = c .before .before .pre (c .before .if1 .taken) in omega (arith, c .place .ensures)
+
+returns : tie.Need-returns
+unfolding markedIf
+returns c = rw (c .before .if1 .taken, c .place .ensures)
+
+returns-2 : tie.Need-returns-2
+unfolding markedIf
+returns-2 c = rw (c .if1 .left)
+
+pub mark-spec : {M : Type 1} → statement M
+mark-spec = tie.close (tie.spec place-requires mul-marks element-write-marks returns returns-2)

@@ -1,0 +1,41 @@
+-- Invariant: what the marked nodes from n on refer to is marked. Measure: n.
+use mathlib.Core.Path.{_≡_, refl, ap, subst, sym, _∙_}
+use mathlib.Core.List.{List}
+use Prim.Native.Nat.{ℕ, suc, _-_, _≤_, _<_}
+use native.Mathlib.Omega.{arith}
+use Rattle.model.specs.Tables.{nodeCount}
+use Rattle.reaching.specs.Marks.{Closed, closed-none, closed-more}
+use Rattle.reaching.proofs.mark_all_referred.Statement.{statement}
+use Rattle.reaching.proofs.mark_all_referred.Tie as tie
+
+abbrev Inv-loop : tie.InvT-loop
+Inv-loop counts nodes marks₀ n₀ marks n = (n ≤ nodeCount nodes) × Closed counts nodes n marks₀ marks
+
+abbrev μ-loop : tie.MeasureT-loop
+μ-loop counts nodes marks₀ n₀ marks n = n
+
+loop-holds : tie.Need-loop-holds Inv-loop μ-loop
+loop-holds c = (omega arith, closed-none _ _ _ _ (omega arith) (c .before .before .pre .1))
+
+sub-n : tie.Need-sub-n Inv-loop μ-loop
+sub-n c = omega arith
+
+mark-referred-requires : tie.Need-mark-referred-requires Inv-loop μ-loop
+mark-referred-requires c κs = (c .before .before .before .before .before .pre .0, omega arith)
+
+loop-less : tie.Need-loop-less Inv-loop μ-loop
+loop-less c = omega arith
+
+loop-again : tie.Need-loop-again Inv-loop μ-loop
+loop-again c = let h : c .before .before .before .loop .n - 1 < nodeCount (c .before .before .before .before .before .before .args .nodes .now) = omega arith in
+    let e : c .before .before .before .loop .n ≡ suc (c .before .before .before .loop .n - 1) = omega arith in
+    (omega arith, closed-more (c .before .before .before .before .before .before .pre .0) (c .before .before .before .loop .n - 1) h _ (c .before .before .before .loop .marks) _ (subst (λ (x : ℕ). Closed (c .before .before .before .before .before .before .args .counts .now) (c .before .before .before .before .before .before .args .nodes .now) x (c .before .before .before .before .before .before .args .marks .now) (c .before .before .before .loop .marks)) e (c .before .before .before .loop .inv .1)) (c .mark-referred .ensures))
+
+returns : tie.Need-returns Inv-loop μ-loop
+returns c = let e : c .before .loop .n ≡ 0 = omega arith in
+    subst (λ (x : ℕ). Closed (c .before .before .before .before .args .counts .now) (c .before .before .before .before .args .nodes .now) x (c .before .before .before .before .args .marks .now) (c .before .loop .marks)) e (c .before .loop .inv .1)
+
+pub mark-all-referred-spec : {M : Type 1} → statement M
+mark-all-referred-spec =
+    tie.close
+    (tie.spec Inv-loop μ-loop loop-holds sub-n mark-referred-requires loop-less loop-again returns)

@@ -1,0 +1,58 @@
+-- What a good node refers to is below it, and so has a mark; a node that is not marked changes nothing.
+use mathlib.Core.Path.{_≡_, refl, ap, sym, _∙_}
+use Prim.Native.Nat.{ℕ, _<_, _≤_}
+use native.Mathlib.Omega.{arith}
+use borrow.Author.Needs.{needs}
+use borrow.Author.Tests.{leb-true}
+use Rattle.model.specs.Tables
+use Rattle.model.specs.Admission.{references}
+use Rattle.reaching.specs.Marks.{first-smaller, second-smaller, called-known, referred-taken, referred-kept}
+use Rattle.reaching.proofs.mark_referred.Statement.{statement}
+use Rattle.reaching.proofs.mark_referred.Tie as tie
+
+mul-if1 : tie.Need-mul-if1
+mul-if1 c = search needs
+
+element-copy-out-if1 : tie.Need-element-copy-out-if1
+element-copy-out-if1 c = omega (arith, c .before .before .pre .0 .few)
+
+node-at-requires : tie.Need-node-at-requires
+node-at-requires c κs = search needs
+
+references-of-requires : tie.Need-references-of-requires
+references-of-requires c κs = let t = ap (λ (n : Tables.Node). n .tag) (c .node-at .ensures) in
+    λ e. rw (ap (λ (n : Tables.Node). n .name) (c .node-at .ensures)) (called-known (c .before .before .before .before .before .pre .0) (c .before .before .before .before .before .args .n) (c .before .before .before .before .before .pre .1) (sym t ∙ e))
+
+mark-requires : tie.Need-mark-requires
+mark-requires c κs = let k : c .before .references-of .result ≡ references (c .before .before .before .before .before .before .before .args .counts .now) (Tables.nodeAt (c .before .before .before .before .before .before .before .args .nodes .now) (c .before .before .before .before .before .before .before .args .n)) = c .before .references-of .ensures ∙ ap (references (c .before .before .before .before .before .before .before .args .counts .now)) (c .before .before .node-at .ensures) in
+    λ e.
+    let l : 1 ≤ references (c .before .before .before .before .before .before .before .args .counts .now) (Tables.nodeAt (c .before .before .before .before .before .before .before .args .nodes .now) (c .before .before .before .before .before .before .before .args .n)) = rw k at (leb-true 1 (c .before .references-of .result) e) in
+    let f = ap (λ (n : Tables.Node). n .first) (c .before .before .node-at .ensures) in
+    omega (arith, first-smaller (c .before .before .before .before .before .before .before .pre .0) (c .before .before .before .before .before .before .before .args .n) (c .before .before .before .before .before .before .before .pre .1) l, c .before .before .before .before .before .before .before .pre .0 .few)
+
+mark-requires-2 : tie.Need-mark-requires-2
+mark-requires-2 c κs = let k : c .before .before .before .references-of .result ≡ references (c .before .before .before .before .before .before .before .before .before .args .counts .now) (Tables.nodeAt (c .before .before .before .before .before .before .before .before .before .args .nodes .now) (c .before .before .before .before .before .before .before .before .before .args .n)) = c .before .before .before .references-of .ensures ∙ ap (references (c .before .before .before .before .before .before .before .before .before .args .counts .now)) (c .before .before .before .before .node-at .ensures) in
+    λ e.
+    let l : 2 ≤ references (c .before .before .before .before .before .before .before .before .before .args .counts .now) (Tables.nodeAt (c .before .before .before .before .before .before .before .before .before .args .nodes .now) (c .before .before .before .before .before .before .before .before .before .args .n)) = rw k at (leb-true 2 (c .before .before .before .references-of .result) e) in
+    let f = ap (λ (n : Tables.Node). n .second) (c .before .before .before .before .node-at .ensures) in
+    omega (arith, second-smaller (c .before .before .before .before .before .before .before .before .before .pre .0) (c .before .before .before .before .before .before .before .before .before .args .n) (c .before .before .before .before .before .before .before .before .before .pre .1) l, c .before .before .before .before .before .before .before .before .before .pre .0 .few)
+
+returns : tie.Need-returns
+returns c = let k : c .before .before .before .before .references-of .result ≡ references (c .before .before .before .before .before .before .before .before .before .before .args .counts .now) (Tables.nodeAt (c .before .before .before .before .before .before .before .before .before .before .args .nodes .now) (c .before .before .before .before .before .before .before .before .before .before .args .n)) = c .before .before .before .before .references-of .ensures ∙ ap (references (c .before .before .before .before .before .before .before .before .before .before .args .counts .now)) (c .before .before .before .before .before .node-at .ensures) in
+    c .mark2 .ensures ∙ rw (c .before .before .mark .ensures) (referred-taken _ _ _ (c .before .before .before .before .before .before .before .before .before .before .args .n) (c .before .before .before .before .references-of .result) _ _ (c .before .before .before .before .before .before .if1 .taken) k (ap (λ (n : Tables.Node). n .first) (c .before .before .before .before .before .node-at .ensures)) (ap (λ (n : Tables.Node). n .second) (c .before .before .before .before .before .node-at .ensures)))
+
+returns-2 : tie.Need-returns-2
+returns-2 c = referred-kept _ _ _ (c .before .before .before .before .args .n) (c .if1 .left)
+
+pub mark-referred-spec : {M : Type 1} → statement M
+mark-referred-spec =
+    tie.close
+    (tie.spec
+    mul-if1
+    element-copy-out-if1
+    node-at-requires
+    references-of-requires
+    mark-requires
+    mark-requires-2
+    returns
+    returns-2)

@@ -1,0 +1,3 @@
+-- Marks on nodes, and lists of the marked nodes.
+pub mod Marks
+pub mod Listing
