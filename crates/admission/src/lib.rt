@@ -12,7 +12,7 @@ use admission_tables::sizes::first_bad_length;
 use admission_tables::sizes::first_bad_size;
 use answers::AdmissionAnswer;
 use answers::ContractFault;
-use numbering::fact_offset;
+use numbering::fact_total;
 ghost use mathlib.Core.Path.{_≡_};
 ghost use Prim.Native.Nat.{_+_, _≤_};
 ghost use lib.ListN.{length};
@@ -94,7 +94,7 @@ fn admit_expressions(
     if rule < rules.len() / 3 {
         return AdmissionAnswer::Refused(ContractFault::Rule(rule));
     }
-    let total = fact_offset(output_states, counts, counts.len());
+    let total = fact_total(output_states, counts);
     if 256 < total {
         return AdmissionAnswer::Refused(ContractFault::Facts(total));
     }

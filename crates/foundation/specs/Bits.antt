@@ -1,19 +1,17 @@
 -- Single bits of a word under or, and, shifts and masks; a word known by its bits; a word of lanes times single bits a lane apart.
-use mathlib.Core.Path.{_≡_, refl, ap, ap₂, subst, sym, _∙_}
+use mathlib.Core.Path.{_≡_, refl, ap, ap₂, sym, _∙_}
 use mathlib.Core.Bool.{Bool, true, false}
 use Prim.Native.Nat.{ℕ, zero, suc, _+_, _*_, _-_, _/_, _%_, _^_, _<_, _≤_, min, max}
-use native.Mathlib.Nat.{not-suc-le-zero, add-mul-div-right, add-mul-mod-self-right, div-eq-of-lt, zero-mod, zero-div, mod-lt, mod-eq-of-lt, add-comm, mul-comm, pow-suc, zero-add, add-zero, suc-add}
+use native.Mathlib.Nat.{not-suc-le-zero, add-mul-div-right, add-mul-mod-self-right, div-eq-of-lt, zero-div, mod-lt, mod-eq-of-lt, add-comm, zero-add, add-zero, suc-add}
 use native.Mathlib.Numerals.{add-one}
 use native.Mathlib.Omega.{arith}
-use native.Mathlib.Decide.{ℕ-discrete, decLt}
-use borrow.Author.Tests.{lt-ltb, le-ltb, eq-eqb, ne-eqb}
-use lib.Dec.{T, eqb, ltb}
+use native.Mathlib.Decide.{ℕ-discrete}
+use lib.Dec.{eqb}
 use lib.Arith.{digits-lt}
-use lib.Pow.{pow-pos, pow-mono, pow-add, shr-shr, shl-shr, field, mod-mod-pow, shr-lt, split}
+use lib.Pow.{pow-pos, pow-mono, pow-add, shr-shr, shl-shr, shr-lt, split}
 use lib.Bits.{bitOr, bitAnd, or-step, or-shr, or-lt, and-step, and-shr, and-mask}
-use Rattle.foundation.specs.Words.{bit, word, one-if, word-lt}
-use Rattle.foundation.specs.Tests.{_and_, _or_, same, below, someBelow}
-use Rattle.foundation.specs.TestLaws.{and-true, and-false}
+use Rattle.foundation.specs.Words.{bit, word, one-if}
+use Rattle.foundation.specs.Tests.{_and_, _or_, someBelow}
 
 or2 : (a b : ℕ) → a < 2 → b < 2 → eqb (max a b) 1 ≡ (eqb a 1 or eqb b 1)
 unfolding _or_

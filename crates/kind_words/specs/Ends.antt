@@ -3,7 +3,7 @@
 use mathlib.Core.Path.{_≡_, refl, ap, ap₂, subst, sym, _∙_}
 use mathlib.Core.List.{List, [], _∷_, _++_}
 use mathlib.Core.Bool.{Bool, true, false}
-use Prim.Native.Nat.{ℕ, zero, suc, _+_, _*_, _-_, _/_, _%_, _^_, _<_, _≤_}
+use Prim.Native.Nat.{ℕ, zero, suc, _+_, _-_, _/_, _%_, _^_, _<_, _≤_}
 use native.Mathlib.Omega.{arith}
 use native.Mathlib.Decide.{ℕ-discrete, decLt}
 use lib.ListN.{length, getD, take, List·getD-append}
@@ -11,7 +11,7 @@ use lib.Pow.{pow-pos}
 use lib.Seq.{getD-take, getD-append-add}
 use Rattle.foundation.specs.Words.{bit}
 use Rattle.foundation.specs.Tests.{_and_, same, some-cong}
-use Rattle.foundation.specs.TestLaws.{and-true, same-yes, same-no}
+use Rattle.foundation.specs.TestLaws.{and-true, same-no}
 use Rattle.foundation.specs.Bits.{bit-zero}
 use Rattle.model.specs.Tables.{Contract, inputRow}
 use Rattle.model.specs.Expressions.{Child, left, right}

@@ -1,19 +1,16 @@
 -- What the code asks of its tables, and that a prepared contract has it.
-use mathlib.Core.Path.{_≡_, refl, ap, subst, sym, _∙_}
-use mathlib.Core.List.{List, [], _∷_, _++_}
-use Prim.Native.Nat.{ℕ, zero, suc, _+_, _*_, _-_, _/_, _^_, _<_, _≤_}
-use native.Mathlib.Nat.{pow-le-pow-right, mul-le-mul-right, mul-le-mul-left, one-le-pow}
+use mathlib.Core.Path.{_≡_}
+use mathlib.Core.List.{List}
+use Prim.Native.Nat.{ℕ, suc, _+_, _*_, _-_, _^_, _<_, _≤_}
+use native.Mathlib.Nat.{pow-le-pow-right, mul-le-mul-right, one-le-pow}
 use native.Mathlib.Omega.{arith}
-use native.Mathlib.Decide.{ℕ-discrete}
-use lib.ListN.{length, getD, take}
-use Rattle.model.specs.Tables.{Contract, contract, InputRow, inputRow, inputRowCount, Node, nodeAt, nodeCount, Rule, ruleAt, ruleCount, countOf}
-use Rattle.model.specs.Kinds.{nextKind}
-use Rattle.model.specs.Admission.{tableLength, references}
-use Rattle.model.proofs.Laws.Established.{Established, GoodNode, good-parameter, good-nothing, good-symbol, good-call, GoodRule, GoodInputRow}
-use Rattle.kind_words.specs.Lanes.{Sized, Laid}
-use Rattle.kind_words.specs.Called.{pow-one, pow-two}
-use Rattle.kind_words.specs.Listed.{Layout, ListOf}
-use Rattle.kind_words.specs.Kind.{Prepared, listed, lanes-fit, some-states, offset-inside}
+use lib.ListN.{length, getD}
+use Rattle.model.specs.Tables.{Contract, contract, inputRow, inputRowCount, Node, nodeAt, nodeCount, ruleAt, ruleCount, countOf}
+use Rattle.model.specs.Admission.{tableLength}
+use Rattle.model.proofs.Laws.Established.{Established, GoodNode, good-parameter, good-nothing, good-symbol, good-call}
+use Rattle.kind_words.specs.Lanes.{Laid}
+use Rattle.kind_words.specs.Listed.{Layout}
+use Rattle.kind_words.specs.Kind.{Prepared, listed, lanes-fit, offset-inside}
 
 -- words of lanes over at most four states
 pub record LayoutFits (lay : Layout) : Type 0 where

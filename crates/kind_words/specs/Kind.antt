@@ -1,32 +1,31 @@
 -- The whole kind in table form, and that it is the model's kind: six words, the sixth 0.
 use mathlib.Core.Path.{_≡_, refl, ap, ap₂, subst, sym, _∙_}
 use mathlib.Core.List.{List, [], _∷_, _++_}
-use mathlib.Core.Bool.{Bool, true, false}
+use mathlib.Core.Bool.{Bool}
 use Prim.Native.Nat.{ℕ, zero, suc, _+_, _*_, _-_, _/_, _%_, _^_, _<_, _≤_}
-use native.Mathlib.Nat.{mul-div-cancel, div-self, one-le-pow, pow-zero, pow-le-pow-right, mul-le-mul-right, mul-le-mul-left}
+use native.Mathlib.Nat.{mul-div-cancel, div-self, one-le-pow, pow-le-pow-right, mul-le-mul-left}
 use native.Mathlib.Omega.{arith}
 use native.Mathlib.Decide.{ℕ-discrete}
 use borrow.Author.Tests.{eq-eqb, ne-eqb}
-use lib.Pow.{pow-pos, pow-mono, pow-add}
-use lib.ListN.{length, getD, set, take, replicate, length-set, length-replicate}
-use lib.Seq.{getD-set-same, getD-set-other, ext-getD}
+use lib.Pow.{pow-mono, pow-add}
+use lib.ListN.{length, getD, set, replicate, length-replicate}
 use lib.Bits.{bitOr, or-zero-r}
 use Rattle.foundation.specs.Words.{bit, word, word-cong}
 use Rattle.foundation.specs.TestLaws.{same-yes, same-no}
-use Rattle.foundation.specs.Bits.{word-unique, bit-zero, zero-bits, orTo}
-use Rattle.model.specs.Tables.{Contract, inputRow, inputRowCount, nodeCount, ruleAt, ruleCount, countOf}
+use Rattle.foundation.specs.Bits.{word-unique, zero-bits, orTo}
+use Rattle.model.specs.Tables.{Contract, inputRow, inputRowCount, ruleAt, ruleCount, countOf}
 use Rattle.model.specs.Expressions.{Child}
 use Rattle.model.specs.Outputs.{rightSide}
-use Rattle.model.specs.Facts.{onSide, offset, factTotal, numbered, factsAt}
-use Rattle.model.specs.Kinds.{factsIn, stateIn, reachedNext, nextKind, kindWords, numberedFact}
+use Rattle.model.specs.Facts.{onSide, offset, factsAt}
+use Rattle.model.specs.Kinds.{factsIn, nextKind, kindWords, numberedFact}
 use Rattle.model.proofs.Laws.Established.{Established}
 use Rattle.model.proofs.Laws.Facts.{numbered-none, offset-next}
 use Rattle.kind_words.specs.Lanes.{Lanes, lanes-eq}
 use Rattle.kind_words.specs.Blocks.{narrowed-lanes, Holds, block-holds, nothing-holds, Words}
 use Rattle.kind_words.specs.Nodes.{LanesAre, NodeIs}
 use Rattle.kind_words.specs.Called.{OffsetsIn, Narrow}
-use Rattle.kind_words.specs.Listed.{Layout, nodeStep, filledTo, length-filled, Before, ListOf, StepsFrom, layout, step, filled-is, done-at}
-use Rattle.kind_words.specs.Rules.{ruleBlock, withRule, withRules, BlockIs, placed, allFacts, all-facts-bit, block-is}
+use Rattle.kind_words.specs.Listed.{Layout, nodeStep, filledTo, Before, ListOf, StepsFrom, layout, filled-is, done-at}
+use Rattle.kind_words.specs.Rules.{ruleBlock, withRule, withRules, placed, allFacts, all-facts-bit, block-is}
 use Rattle.kind_words.specs.States.{rowStates, states-are}
 
 -- place i of the list of symbol s

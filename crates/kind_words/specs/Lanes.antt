@@ -3,14 +3,14 @@
 use mathlib.Core.Path.{_≡_, refl, ap, sym, _∙_}
 use mathlib.Core.List.{List}
 use mathlib.Core.Bool.{Bool, true, false}
-use Prim.Native.Nat.{ℕ, zero, suc, _+_, _*_, _-_, _/_, _%_, _^_, _<_, _≤_}
+use Prim.Native.Nat.{ℕ, suc, _+_, _*_, _-_, _/_, _^_, _<_, _≤_}
 use native.Mathlib.Nat.{add-comm, mul-le-mul-right}
 use native.Mathlib.Omega.{arith}
 use native.Mathlib.Decide.{ℕ-discrete, decLt}
 use lib.Arith.{digits-lt}
 use lib.ListN.{length, getD}
-use lib.Pow.{pow-pos, pow-mono, shl-lt}
-use lib.Bits.{bitOr, bitAnd, and-le-l, and-le-r, mask-lt}
+use lib.Pow.{pow-mono, shl-lt}
+use lib.Bits.{bitAnd, and-le-l, and-le-r, mask-lt}
 use Rattle.foundation.specs.Words.{bit}
 use Rattle.foundation.specs.Tests.{_and_, same, someBelow, some-cong}
 use Rattle.foundation.specs.TestLaws.{and-false, and-true, and-over, some-and, same-yes, same-no}

@@ -1,8 +1,8 @@
 -- The words of the nodes on a list, one after another, where what a node refers to stands on the list before the node.
-use mathlib.Core.Path.{_≡_, refl, ap, subst, sym, _∙_}
-use mathlib.Core.List.{List, [], _∷_}
+use mathlib.Core.Path.{_≡_, refl, ap, subst, _∙_}
+use mathlib.Core.List.{List}
 use mathlib.Core.Bool.{Bool, cond}
-use Prim.Native.Nat.{ℕ, zero, suc, _+_, _*_, _^_, _<_, _≤_}
+use Prim.Native.Nat.{ℕ, zero, suc, _+_, _^_, _<_, _≤_}
 use native.Mathlib.Nat.{not-suc-le-zero}
 use native.Mathlib.Numerals.{add-one}
 use native.Mathlib.Omega.{arith}
@@ -19,7 +19,7 @@ use Rattle.model.specs.Kinds.{factsIn}
 use Rattle.model.specs.Admission.{references}
 use Rattle.model.proofs.Laws.Established.{GoodNode, good-parameter, good-nothing, good-symbol, good-call}
 use Rattle.kind_words.specs.Blocks.{Words, factsFrom, widened}
-use Rattle.kind_words.specs.Nodes.{nodeWord, outputWord, callWord, LanesAre, NodeIs, ReferredIs, CalledIs, referencesAt, node-word-is}
+use Rattle.kind_words.specs.Nodes.{nodeWord, outputWord, callWord, LanesAre, NodeIs, ReferredIs, node-word-is}
 use Rattle.kind_words.specs.Called.{procedureWord, calledWord, OffsetsIn, Narrow, called-is}
 
 -- how the words of a contract are laid out: output states, the width of a lane, a lane of ones, the first bit of each lane,

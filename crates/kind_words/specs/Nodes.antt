@@ -1,8 +1,8 @@
 -- The word of a node, all assignments of parameter states at once, from the words of the nodes that it refers to.
-use mathlib.Core.Path.{_≡_, refl, ap, ap₂, sym, _∙_}
+use mathlib.Core.Path.{_≡_, ap, ap₂, sym, _∙_}
 use mathlib.Core.List.{List, [], _∷_}
-use mathlib.Core.Bool.{Bool, true, false, cond}
-use Prim.Native.Nat.{ℕ, zero, suc, _+_, _*_, _-_, _/_, _^_, _<_, _≤_, max}
+use mathlib.Core.Bool.{Bool, cond}
+use Prim.Native.Nat.{ℕ, zero, suc, _+_, _*_, _-_, _/_, _^_, _<_, _≤_}
 use native.Mathlib.Omega.{arith}
 use native.Mathlib.Decide.{ℕ-discrete}
 use borrow.Author.Tests.{eq-eqb, ne-eqb}
@@ -11,12 +11,12 @@ use lib.Pow.{pow-pos}
 use lib.ListN.{length, getD}
 use lib.Bits.{bitAnd}
 use Rattle.foundation.specs.Words.{bit}
-use Rattle.foundation.specs.Tests.{_and_, same, below, someBelow, some-cong}
+use Rattle.foundation.specs.Tests.{_and_, same, below, some-cong}
 use Rattle.foundation.specs.TestLaws.{true-and}
 use Rattle.foundation.specs.Bits.{bit-ones}
 use Rattle.model.specs.Tables.{Transformation, OutputType, Node, nodeAt, countOf, emptyState, nextState}
 use Rattle.model.specs.Expressions.{Child, Expression, childOf, argumentsOf, expression, greatestParameter, greatestOfAll}
-use Rattle.model.specs.Facts.{FactSet, yields, yieldsAll, digits}
+use Rattle.model.specs.Facts.{FactSet, yields, digits}
 use Rattle.model.specs.Admission.{references}
 use Rattle.model.proofs.Laws.Expressions.{expression-parameter, expression-nothing, expression-symbol, expression-call, SmallerArguments}
 use Rattle.model.proofs.Laws.Established.{GoodNode, good-parameter, good-nothing, good-symbol, good-call}

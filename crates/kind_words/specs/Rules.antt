@@ -2,29 +2,28 @@
 -- block is its node's word where the parameters that its procedure lacks are in state 0.
 use mathlib.Core.Path.{_≡_, refl, ap, ap₂, sym, _∙_}
 use mathlib.Core.List.{List, [], _∷_}
-use mathlib.Core.Bool.{Bool, true, false}
-use Prim.Native.Nat.{ℕ, zero, suc, _+_, _*_, _-_, _/_, _%_, _^_, _<_, _≤_, max}
-use native.Mathlib.Nat.{not-suc-le-zero, le-of-suc-le-suc, suc-add, mul-div-mul-right, mod-lt, one-le-pow, pow-suc, mul-comm, div-lt-iff-lt-mul, mul-div-cancel, mul-mod-left, add-zero, mul-lt-mul-of-pos-right, div-add-mod', div-self}
+use mathlib.Core.Bool.{Bool, false}
+use Prim.Native.Nat.{ℕ, zero, suc, _+_, _*_, _-_, _/_, _%_, _^_, _<_, _≤_}
+use native.Mathlib.Nat.{not-suc-le-zero, le-of-suc-le-suc, suc-add, mul-div-mul-right, mod-lt, one-le-pow, pow-suc, mul-comm, div-lt-iff-lt-mul, mul-div-cancel, mul-mod-left, add-zero, mul-lt-mul-of-pos-right, div-add-mod'}
 use native.Mathlib.Numerals.{add-one}
 use native.Mathlib.Omega.{arith}
 use native.Mathlib.Decide.{ℕ-discrete, decLt}
 use borrow.Author.Tests.{eq-eqb, ne-eqb}
 use lib.Dec.{eqb}
-use lib.Arith.{digits-lt, mod-mul}
-use lib.Pow.{pow-pos, pow-mono, pow-add}
+use lib.Arith.{mod-mul}
+use lib.Pow.{pow-add}
 use lib.ListN.{length, getD}
-use lib.Bits.{bitOr, or-zero-r}
 use Rattle.foundation.specs.Words.{bit}
 use Rattle.foundation.specs.Tests.{choose, _and_, same, someBelow, some-cong}
-use Rattle.foundation.specs.TestLaws.{and-false, true-and, same-yes, same-no, below-yes, some-none}
+use Rattle.foundation.specs.TestLaws.{and-false, same-yes, same-no, below-yes, some-none}
 use Rattle.foundation.specs.Bits.{bit-shl, bit-shl-low, bit-zero, bit-high, orTo, orTo-bit}
 use Rattle.model.specs.Tables.{Contract, Transformation, OutputType, ruleAt, ruleCount, countOf}
-use Rattle.model.specs.Expressions.{Child, Expression, parameter, nothing, symbol, call, Arguments, none, argument, expression, greatestParameter, greatestOfAll}
+use Rattle.model.specs.Expressions.{Child, Expression, parameter, nothing, symbol, call, Arguments, none, argument, greatestParameter, greatestOfAll}
 use Rattle.model.specs.Outputs.{rightSide}
-use Rattle.model.specs.Facts.{FactSet, yields, yieldsAll, factsAt, digits, code, offset, factTotal, factNumber, numbered}
+use Rattle.model.specs.Facts.{FactSet, yields, yieldsAll, factsAt, digits, offset, factTotal, factNumber, numbered}
 use Rattle.model.proofs.Laws.Facts.{length-digits, digits-below, code-digits, IsFact, numbered-fact, numbered-none, offset-next, NumberOf, number-of}
-use Rattle.kind_words.specs.Lanes.{Lanes, lanes-eq}
-use Rattle.kind_words.specs.Blocks.{narrowed, narrowed-lanes, withBlock, Holds, block-holds}
+use Rattle.kind_words.specs.Lanes.{Lanes}
+use Rattle.kind_words.specs.Blocks.{narrowed, withBlock}
 use Rattle.kind_words.specs.Nodes.{NodeIs, nodeFact}
 use Rattle.kind_words.specs.Listed.{Layout}
 

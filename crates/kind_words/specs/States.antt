@@ -2,17 +2,16 @@
 use mathlib.Core.Path.{_≡_, refl, ap, ap₂, sym, _∙_}
 use mathlib.Core.List.{List}
 use mathlib.Core.Bool.{Bool, true, false, cond}
-use Prim.Native.Nat.{ℕ, zero, suc, _+_, _*_, _/_, _^_, _<_, _≤_}
+use Prim.Native.Nat.{ℕ, _*_, _/_, _^_, _<_}
 use native.Mathlib.Nat.{add-zero}
-use native.Mathlib.Omega.{arith}
 use native.Mathlib.Decide.{ℕ-discrete}
 use borrow.Author.Tests.{eq-eqb, ne-eqb}
 use lib.Dec.{eqb}
 use lib.Bits.{bitAnd}
-use lib.ListN.{length, getD}
+use lib.ListN.{getD}
 use lib.Pow.{pow-pos}
 use Rattle.foundation.specs.Words.{bit, word}
-use Rattle.foundation.specs.Tests.{_and_, same, someBelow, some-cong}
+use Rattle.foundation.specs.Tests.{_and_, same, some-cong}
 use Rattle.foundation.specs.TestLaws.{and-false, same-yes, same-no, same-turned}
 use Rattle.foundation.specs.Bits.{word-unique, bit-and, bit-shr, bit-zero, orTo, orTo-bit, orTo-lt}
 use Rattle.model.specs.Tables.{Contract, inputRow, inputRowCount}

@@ -1,6 +1,6 @@
 -- Lanes fit into a word: the room of a shift, of a product and of a row of the output table.
 use mathlib.Core.Path.{_≡_, refl, ap, sym, _∙_}
-use Prim.Native.Nat.{ℕ, zero, suc, _+_, _-_, _*_, _/_, _%_, _^_, _≤_, _<_}
+use Prim.Native.Nat.{ℕ, zero, suc, _+_, _-_, _*_, _/_, _^_, _≤_, _<_}
 use native.Mathlib.Nat.{mul-le-mul-right, mul-le-mul-left, pow-zero, pow-suc, one-le-pow, mul-div-le, le-div-iff-mul-le, pow-le-pow-left, pow-le-pow-right}
 use native.Mathlib.Omega.{arith}
 use lib.Pow.{pow-mono, pow-lt, shl-lt, pow-pos}

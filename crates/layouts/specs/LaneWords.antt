@@ -1,18 +1,18 @@
 -- The words of a layout: the first bit of each lane, and for each assignment the state of a parameter, which is a digit of
 -- the assignment's number.
-use mathlib.Core.Path.{_≡_, refl, ap, ap₂, sym, _∙_}
-use mathlib.Core.List.{List, [], _∷_}
+use mathlib.Core.Path.{_≡_, refl, ap, sym, _∙_}
+use mathlib.Core.List.{List}
 use mathlib.Core.Bool.{Bool, true, false}
 use Prim.Native.Nat.{ℕ, zero, suc, _+_, _*_, _-_, _/_, _%_, _^_, _<_, _≤_, max}
-use native.Mathlib.Nat.{add-zero, mod-lt, pow-zero, pow-suc, one-le-pow, mod-eq-of-lt, div-lt-iff-lt-mul, div-one, not-suc-le-zero}
+use native.Mathlib.Nat.{add-zero, mod-lt, pow-zero, one-le-pow, mod-eq-of-lt, div-lt-iff-lt-mul}
 use native.Mathlib.Omega.{arith}
 use native.Mathlib.Decide.{ℕ-discrete, decLt}
 use lib.Dec.{eqb}
 use lib.ListN.{length, getD, set, List·getD-eq-default}
 use lib.Seq.{getD-set-same, getD-set-other}
-use lib.Pow.{pow-lt, pow-pos}
+use lib.Pow.{pow-lt}
 use Rattle.foundation.specs.Words.{bit}
-use Rattle.foundation.specs.Tests.{choose, _and_, same, below, someBelow, some-cong}
+use Rattle.foundation.specs.Tests.{choose, _and_, same, below, some-cong}
 use Rattle.foundation.specs.TestLaws.{some-same, same-yes, same-no, below-yes, true-and}
 use Rattle.foundation.specs.Bits.{bit-shl, bit-shl-low, bit-high, orTo}
 use Rattle.model.specs.Tables.{countOf}

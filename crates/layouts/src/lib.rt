@@ -15,6 +15,7 @@ use blocks::lane_of_ones;
 use lanes::Layout;
 use lanes::up;
 use numbering::fact_offset;
+use tables::Procedure;
 
 // The first bit of each lane.
 fn starts_word(states: usize, width: u64) -> u64
@@ -106,7 +107,7 @@ fn offset_entry(states: usize, counts: &[u16], p: usize) -> u16
     requires { ⌜ SmallCounts states (now counts) × (p < length (now counts)) × (offset states (now counts) p < 256) ⌝ }
     ensures { λ r. ⌜ r ≡ offset states (now (counts .entry)) p ⌝ }
 {
-    fact_offset(states, counts, p) as u16
+    fact_offset(states, counts, Procedure(p as u16)) as u16
 }
 
 // The offsets of a contract's procedures.

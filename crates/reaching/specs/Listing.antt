@@ -2,7 +2,7 @@
 use mathlib.Core.Path.{_≡_, refl, ap, subst, sym, _∙_}
 use mathlib.Core.List.{List}
 use mathlib.Core.Bool.{Bool, true, false}
-use Prim.Native.Nat.{ℕ, zero, suc, _+_, _*_, _<_, _≤_}
+use Prim.Native.Nat.{ℕ, _+_, _*_, _<_, _≤_}
 use native.Mathlib.Omega.{arith}
 use native.Mathlib.Decide.{ℕ-discrete}
 use borrow.Author.Tests.{eq-eqb, ne-eqb}
@@ -10,7 +10,7 @@ use lib.Dec.{eqb}
 use lib.ListN.{length, getD, set, length-set}
 use lib.Seq.{getD-set-same, getD-set-other}
 use Rattle.foundation.specs.Tests.{choose}
-use Rattle.model.specs.Tables.{nodeAt, nodeCount, ruleAt, ruleCount}
+use Rattle.model.specs.Tables.{nodeCount, ruleAt, ruleCount}
 use Rattle.kind_words.specs.Listed.{Before, ListOf, RefersBefore}
 use Rattle.kind_words.specs.Kind.{listed, ListsFor}
 use Rattle.reaching.specs.Marks.{Marked, counted, Closed, RulesMarked, NodesGood, RulesGood, first-smaller, second-smaller}

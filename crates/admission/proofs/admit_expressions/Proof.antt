@@ -28,8 +28,8 @@ returns-2 c =
     (answer-refused _ _ 7 _
     (refuse-first-at 7 _ _ _ (c .before .first-bad-rule .ensures) (c .if2 .taken)))
 
-fact-offset-requires : tie.Need-fact-offset-requires
-fact-offset-requires c κs = search needs
+fact-total-requires : tie.Need-fact-total-requires
+fact-total-requires c κs = search needs
 
 returns-3 : tie.Need-returns-3
 unfolding expressions nodes rules facts
@@ -38,7 +38,7 @@ returns-3 c =
     (refuse-first-none 6 _ _ _ (c .before .before .before .before .before .first-bad-node .ensures) (c .before .before .before .before .if1 .left))
     (answer-passed _ _ _
     (refuse-first-none 7 _ _ _ (c .before .before .before .first-bad-rule .ensures) (c .before .before .if2 .left))
-    (answer-last _ 8 _ (facts-over _ _ _ (c .before .fact-offset .ensures) (c .if3 .taken))))
+    (answer-last _ 8 _ (facts-over _ _ _ (c .before .fact-total .ensures) (c .if3 .taken))))
 
 returns-4 : tie.Need-returns-4
 unfolding expressions nodes rules facts
@@ -47,7 +47,7 @@ returns-4 c =
     (refuse-first-none 6 _ _ _ (c .before .before .before .before .before .first-bad-node .ensures) (c .before .before .before .before .if1 .left))
     (answer-passed _ _ _
     (refuse-first-none 7 _ _ _ (c .before .before .before .first-bad-rule .ensures) (c .before .before .if2 .left))
-    (answer-fine _ (facts-within _ _ _ (c .before .fact-offset .ensures) (c .if3 .left))))
+    (answer-fine _ (facts-within _ _ _ (c .before .fact-total .ensures) (c .if3 .left))))
 
 pub admit-expressions-spec : {M : Type 1} → statement M
 admit-expressions-spec =
@@ -57,6 +57,6 @@ admit-expressions-spec =
     returns
     first-bad-rule-requires
     returns-2
-    fact-offset-requires
+    fact-total-requires
     returns-3
     returns-4)

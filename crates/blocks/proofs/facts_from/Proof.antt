@@ -1,15 +1,8 @@
-use mathlib.Core.Path.{_≡_, refl, ap, sym, _∙_}
-use Prim.Native.Nat.{ℕ, zero, suc, _+_, _*_, _-_, _/_, _%_, _^_, _≤_, _<_}
-use native.Mathlib.Omega.{arith}
-use lib.ListN.{length, getD}
-use lib.Pow.{pow-pos}
-use lib.Bits.{bitAnd}
+-- Straight line: every index and shift is in range, and the result is the definition.
+use mathlib.Core.Path.{refl}
+use Prim.Native.Nat.{_-_}
 use borrow.Author.Needs.{needs}
-use borrow.Author.Tests.{eq-eqb, ne-eqb}
-use Rattle.foundation.specs.Bits.{orTo, or-more, or-none}
-use Rattle.kind_words.specs.Lanes.{Sized, Laid, StatesAt, symbolRow, symbolWord, callRow, callTwo, callOne}
-use Rattle.kind_words.specs.Blocks.{factsFrom, widened, narrowedLane, narrowed, withBlock, one-at, narrowed-lane-lt}
-use Rattle.lanes.proofs.Room.{room, put-fits, under, square, times-fits, lane-lt, thin, thin-lt, pow0, pow1, pow2, one-up, row-room, side}
+use Rattle.kind_words.specs.Blocks.{factsFrom}
 use Rattle.blocks.proofs.facts_from.Statement.{statement}
 use Rattle.blocks.proofs.facts_from.Tie as tie
 

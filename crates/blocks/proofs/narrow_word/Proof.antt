@@ -1,15 +1,12 @@
-use mathlib.Core.Path.{_≡_, refl, ap, sym, _∙_}
-use Prim.Native.Nat.{ℕ, zero, suc, _+_, _*_, _-_, _/_, _%_, _^_, _≤_, _<_}
+-- Invariant: the first q lanes are narrowed. Measure: the lanes left.
+use mathlib.Core.Path.{_≡_, _∙_}
+use Prim.Native.Nat.{ℕ, _*_, _-_, _^_, _≤_, _<_}
 use native.Mathlib.Omega.{arith}
-use lib.ListN.{length, getD}
-use lib.Pow.{pow-pos}
-use lib.Bits.{bitAnd}
-use borrow.Author.Needs.{needs}
 use borrow.Author.Tests.{eq-eqb, ne-eqb}
 use Rattle.foundation.specs.Bits.{orTo, or-more, or-none}
-use Rattle.kind_words.specs.Lanes.{Sized, Laid, StatesAt, symbolRow, symbolWord, callRow, callTwo, callOne}
-use Rattle.kind_words.specs.Blocks.{factsFrom, widened, narrowedLane, narrowed, withBlock, one-at, narrowed-lane-lt}
-use Rattle.lanes.proofs.Room.{room, put-fits, under, square, times-fits, lane-lt, thin, thin-lt, pow0, pow1, pow2, one-up, row-room, side}
+use Rattle.kind_words.specs.Lanes.{Sized}
+use Rattle.kind_words.specs.Blocks.{narrowedLane, narrowed, narrowed-lane-lt}
+use Rattle.lanes.proofs.Room.{room, put-fits, thin}
 use Rattle.blocks.proofs.narrow_word.Statement.{statement}
 use Rattle.blocks.proofs.narrow_word.Tie as tie
 
@@ -21,26 +18,41 @@ abbrev μ-loop : tie.MeasureT-loop
 
 returns : tie.Need-returns Inv-loop μ-loop
 unfolding narrowed
-returns c = rw (eq-eqb (c .before .args .narrow) (c .before .args .width) (c .if1 .taken))
+returns c =
+    let args = c .before .args in
+    rw (eq-eqb (args .narrow) (args .width) (c .if1 .taken))
 
 loop-holds : tie.Need-loop-holds Inv-loop μ-loop
 loop-holds c = (omega arith, omega arith, omega arith, or-none _)
 
 narrow-lane-requires : tie.Need-narrow-lane-requires Inv-loop μ-loop
-narrow-lane-requires c κs = (c .before .before .before .pre .2, omega (arith, room (c .before .before .before .args .states) (c .before .before .before .args .width) (c .before .loop .q) (c .before .before .before .pre .0 .some) (c .before .before .before .pre .0 .fit) (omega arith), c .before .before .before .pre .4), c .before .before .before .pre .5)
+narrow-lane-requires c κs =
+    let args = c .before .before .before .args in
+    let pre = c .before .before .before .pre in
+    (pre .2, omega (arith, room (args .states) (args .width) (c .before .loop .q) (pre .0 .some) (pre .0 .fit) (omega arith), pre .4), pre .5)
 
 up-requires : tie.Need-up-requires Inv-loop μ-loop
 up-requires c κs =
-    let h : c .before .before .loop .q < c .before .before .before .before .args .states = omega arith in
-    let sz : Sized (c .before .before .before .before .args .states) (c .before .before .before .before .args .narrow) = record { some = c .before .before .before .before .pre .1; fit = omega (arith, c .before .before .before .before .pre .0 .fit, thin (c .before .before .before .before .args .narrow) (c .before .before .before .before .args .width) (c .before .before .before .before .args .states) (c .before .before .before .before .pre .3)) } in
-    let m : c .narrow-lane .result < 2 ^ c .before .before .before .before .args .narrow = rw (c .narrow-lane .ensures) (narrowed-lane-lt (c .before .before .before .before .args .word) (c .before .before .loop .from) (c .before .before .before .before .args .step) (c .before .before .before .before .args .narrow)) in
-    rw (c .before .before .loop .inv .2) (put-fits (c .before .before .before .before .args .states) (c .before .before .before .before .args .narrow) (c .narrow-lane .result) (c .before .before .loop .q) sz m h)
+    let args = c .before .before .before .before .args in
+    let pre = c .before .before .before .before .pre in
+    let loop = c .before .before .loop in
+    let h : loop .q < args .states = omega arith in
+    let sz : Sized (args .states) (args .narrow) = record { some = pre .1; fit = omega (arith, pre .0 .fit, thin (args .narrow) (args .width) (args .states) (pre .3)) } in
+    let m : c .narrow-lane .result < 2 ^ args .narrow = rw (c .narrow-lane .ensures) (narrowed-lane-lt (args .word) (loop .from) (args .step) (args .narrow)) in
+    rw (loop .inv .2) (put-fits (args .states) (args .narrow) (c .narrow-lane .result) (loop .q) sz m h)
 
 add-from : tie.Need-add-from Inv-loop μ-loop
-add-from c = omega (arith, room (c .before .before .before .before .before .args .states) (c .before .before .before .before .before .args .width) (c .before .before .before .loop .q) (c .before .before .before .before .before .pre .0 .some) (c .before .before .before .before .before .pre .0 .fit) (omega arith))
+add-from c =
+    let args = c .before .before .before .before .before .args in
+    let pre = c .before .before .before .before .before .pre in
+    omega (arith, room (args .states) (args .width) (c .before .before .before .loop .q) (pre .0 .some) (pre .0 .fit) (omega arith))
 
 add-to : tie.Need-add-to Inv-loop μ-loop
-add-to c = omega (arith, room (c .before .before .before .before .before .args .states) (c .before .before .before .before .before .args .width) (c .before .before .before .loop .q) (c .before .before .before .before .before .pre .0 .some) (c .before .before .before .before .before .pre .0 .fit) (omega arith), thin (c .before .before .before .before .before .args .narrow) (c .before .before .before .before .before .args .width) (c .before .before .before .loop .q) (c .before .before .before .before .before .pre .3), c .before .before .before .before .before .pre .3)
+add-to c =
+    let args = c .before .before .before .before .before .args in
+    let pre = c .before .before .before .before .before .pre in
+    let loop = c .before .before .before .loop in
+    omega (arith, room (args .states) (args .width) (loop .q) (pre .0 .some) (pre .0 .fit) (omega arith), thin (args .narrow) (args .width) (loop .q) (pre .3), pre .3)
 
 add-q : tie.Need-add-q Inv-loop μ-loop
 add-q c = omega arith
@@ -49,11 +61,16 @@ loop-less : tie.Need-loop-less Inv-loop μ-loop
 loop-less c = omega arith
 
 loop-again : tie.Need-loop-again Inv-loop μ-loop
-loop-again c = (omega arith, omega arith, omega arith, or-more _ (c .before .before .before .loop .q) _ _ (c .before .before .before .loop .inv .3) (c .up .ensures ∙ rw (c .before .narrow-lane .ensures, c .before .before .before .loop .inv .1, c .before .before .before .loop .inv .2)))
+loop-again c =
+    let loop = c .before .before .before .loop in
+    (omega arith, omega arith, omega arith, or-more _ (loop .q) _ _ (loop .inv .3) (c .up .ensures ∙ rw (c .before .narrow-lane .ensures, loop .inv .1, loop .inv .2)))
 
 returns-2 : tie.Need-returns-2 Inv-loop μ-loop
 unfolding narrowed
-returns-2 c = let e : c .before .loop .q ≡ c .before .before .before .args .states = omega arith in rw (ne-eqb (c .before .before .before .args .narrow) (c .before .before .before .args .width) (c .before .before .if1 .left)) (rw e at (c .before .loop .inv .3))
+returns-2 c =
+    let args = c .before .before .before .args in
+    let loop = c .before .loop in
+    let e : loop .q ≡ args .states = omega arith in rw (ne-eqb (args .narrow) (args .width) (c .before .before .if1 .left)) (rw e at (loop .inv .3))
 
 pub narrow-word-spec : {M : Type 1} → statement M
 narrow-word-spec =

@@ -1,15 +1,12 @@
-use mathlib.Core.Path.{_≡_, refl, ap, sym, _∙_}
-use Prim.Native.Nat.{ℕ, zero, suc, _+_, _*_, _-_, _/_, _%_, _^_, _≤_, _<_}
+-- Invariant: the first q lanes are widened. Measure: the lanes left.
+use mathlib.Core.Path.{_≡_, _∙_}
+use Prim.Native.Nat.{ℕ, _*_, _-_, _/_, _^_, _≤_, _<_}
 use native.Mathlib.Omega.{arith}
-use lib.ListN.{length, getD}
-use lib.Pow.{pow-pos}
 use lib.Bits.{bitAnd}
-use borrow.Author.Needs.{needs}
 use borrow.Author.Tests.{eq-eqb, ne-eqb}
 use Rattle.foundation.specs.Bits.{orTo, or-more, or-none}
-use Rattle.kind_words.specs.Lanes.{Sized, Laid, StatesAt, symbolRow, symbolWord, callRow, callTwo, callOne}
-use Rattle.kind_words.specs.Blocks.{factsFrom, widened, narrowedLane, narrowed, withBlock, one-at, narrowed-lane-lt}
-use Rattle.lanes.proofs.Room.{room, put-fits, under, square, times-fits, lane-lt, thin, thin-lt, pow0, pow1, pow2, one-up, row-room, side}
+use Rattle.kind_words.specs.Blocks.{widened}
+use Rattle.lanes.proofs.Room.{room, put-fits, thin, thin-lt}
 use Rattle.blocks.proofs.widen.Statement.{statement}
 use Rattle.blocks.proofs.widen.Tie as tie
 
@@ -21,25 +18,42 @@ abbrev μ-loop : tie.MeasureT-loop
 
 returns : tie.Need-returns Inv-loop μ-loop
 unfolding widened
-returns c = rw (eq-eqb (c .before .args .narrow) (c .before .args .width) (c .if1 .taken))
+returns c =
+    let args = c .before .args in
+    rw (eq-eqb (args .narrow) (args .width) (c .if1 .taken))
 
 loop-holds : tie.Need-loop-holds Inv-loop μ-loop
 loop-holds c = (omega arith, omega arith, omega arith, or-none _)
 
 lane-requires : tie.Need-lane-requires Inv-loop μ-loop
-lane-requires c κs = omega (arith, room (c .before .before .before .args .states) (c .before .before .before .args .width) (c .before .loop .q) (c .before .before .before .pre .0 .some) (c .before .before .before .pre .0 .fit) (omega arith), thin (c .before .before .before .args .narrow) (c .before .before .before .args .width) (c .before .loop .q) (c .before .before .before .pre .2))
+lane-requires c κs =
+    let args = c .before .before .before .args in
+    let pre = c .before .before .before .pre in
+    let loop = c .before .loop in
+    omega (arith, room (args .states) (args .width) (loop .q) (pre .0 .some) (pre .0 .fit) (omega arith), thin (args .narrow) (args .width) (loop .q) (pre .2))
 
 up-requires : tie.Need-up-requires Inv-loop μ-loop
 up-requires c κs =
-    let h : c .before .before .loop .q < c .before .before .before .before .args .states = omega arith in
-    let m : c .lane .result < 2 ^ c .before .before .before .before .args .width = rw (c .lane .ensures) (thin-lt (c .before .before .before .before .args .narrow) (c .before .before .before .before .args .width) (c .before .before .before .before .args .word) (c .before .before .loop .from) (c .before .before .before .before .args .ones) (c .before .before .before .before .pre .2) (c .before .before .before .before .pre .3)) in
-    rw (c .before .before .loop .inv .2) (put-fits (c .before .before .before .before .args .states) (c .before .before .before .before .args .width) (c .lane .result) (c .before .before .loop .q) (c .before .before .before .before .pre .0) m h)
+    let args = c .before .before .before .before .args in
+    let pre = c .before .before .before .before .pre in
+    let loop = c .before .before .loop in
+    let h : loop .q < args .states = omega arith in
+    let m : c .lane .result < 2 ^ args .width = rw (c .lane .ensures) (thin-lt (args .narrow) (args .width) (args .word) (loop .from) (args .ones) (pre .2) (pre .3)) in
+    rw (loop .inv .2) (put-fits (args .states) (args .width) (c .lane .result) (loop .q) (pre .0) m h)
 
 add-from : tie.Need-add-from Inv-loop μ-loop
-add-from c = omega (arith, room (c .before .before .before .before .before .args .states) (c .before .before .before .before .before .args .width) (c .before .before .before .loop .q) (c .before .before .before .before .before .pre .0 .some) (c .before .before .before .before .before .pre .0 .fit) (omega arith), thin (c .before .before .before .before .before .args .narrow) (c .before .before .before .before .before .args .width) (c .before .before .before .loop .q) (c .before .before .before .before .before .pre .2))
+add-from c =
+    let args = c .before .before .before .before .before .args in
+    let pre = c .before .before .before .before .before .pre in
+    let loop = c .before .before .before .loop in
+    omega (arith, room (args .states) (args .width) (loop .q) (pre .0 .some) (pre .0 .fit) (omega arith), thin (args .narrow) (args .width) (loop .q) (pre .2))
 
 add-to : tie.Need-add-to Inv-loop μ-loop
-add-to c = omega (arith, room (c .before .before .before .before .before .args .states) (c .before .before .before .before .before .args .width) (c .before .before .before .loop .q) (c .before .before .before .before .before .pre .0 .some) (c .before .before .before .before .before .pre .0 .fit) (omega arith), thin (c .before .before .before .before .before .args .narrow) (c .before .before .before .before .before .args .width) (c .before .before .before .loop .q) (c .before .before .before .before .before .pre .2))
+add-to c =
+    let args = c .before .before .before .before .before .args in
+    let pre = c .before .before .before .before .before .pre in
+    let loop = c .before .before .before .loop in
+    omega (arith, room (args .states) (args .width) (loop .q) (pre .0 .some) (pre .0 .fit) (omega arith), thin (args .narrow) (args .width) (loop .q) (pre .2))
 
 add-q : tie.Need-add-q Inv-loop μ-loop
 add-q c = omega arith
@@ -48,11 +62,16 @@ loop-less : tie.Need-loop-less Inv-loop μ-loop
 loop-less c = omega arith
 
 loop-again : tie.Need-loop-again Inv-loop μ-loop
-loop-again c = (omega arith, omega arith, omega arith, or-more _ (c .before .before .before .loop .q) _ _ (c .before .before .before .loop .inv .3) (c .up .ensures ∙ rw (c .before .lane .ensures, c .before .before .before .loop .inv .1, c .before .before .before .loop .inv .2, c .before .before .before .before .before .pre .3)))
+loop-again c =
+    let loop = c .before .before .before .loop in
+    (omega arith, omega arith, omega arith, or-more _ (loop .q) _ _ (loop .inv .3) (c .up .ensures ∙ rw (c .before .lane .ensures, loop .inv .1, loop .inv .2, c .before .before .before .before .before .pre .3)))
 
 returns-2 : tie.Need-returns-2 Inv-loop μ-loop
 unfolding widened
-returns-2 c = let e : c .before .loop .q ≡ c .before .before .before .args .states = omega arith in rw (ne-eqb (c .before .before .before .args .narrow) (c .before .before .before .args .width) (c .before .before .if1 .left)) (rw e at (c .before .loop .inv .3))
+returns-2 c =
+    let args = c .before .before .before .args in
+    let loop = c .before .loop in
+    let e : loop .q ≡ args .states = omega arith in rw (ne-eqb (args .narrow) (args .width) (c .before .before .if1 .left)) (rw e at (loop .inv .3))
 
 pub widen-spec : {M : Type 1} → statement M
 widen-spec =

@@ -1,12 +1,9 @@
 -- A rule for the symbol puts its block at its procedure's offset; another changes nothing.
-use mathlib.Core.Path.{_≡_, refl, ap, sym, _∙_}
-use mathlib.Core.List.{List}
-use Prim.Native.Nat.{ℕ, _+_, _*_, _-_, _/_, _^_, _≤_, _<_}
+use mathlib.Core.Path.{ap, sym, _∙_}
+use Prim.Native.Nat.{_-_, _<_}
 use native.Mathlib.Omega.{arith}
-use lib.ListN.{length, getD}
-use lib.Pow.{pow-pos}
+use lib.ListN.{length}
 use borrow.Author.Needs.{needs}
-use borrow.Author.Tests.{eq-eqb, ne-eqb}
 use Rattle.model.specs.Tables
 use Rattle.kind_words.specs.Rules.{rule-added, rule-skipped}
 use Rattle.kinds.proofs.add_rule.Statement.{statement}
@@ -22,8 +19,10 @@ mul-rule-block : tie.Need-mul-rule-block
 mul-rule-block c = search needs
 
 shared-slice-read-rule-block : tie.Need-shared-slice-read-rule-block
-shared-slice-read-rule-block c = let e = ap (λ (x : Tables.Rule). x .procedure) (c .before .before .before .before .before .rule-at .ensures) in
-    rw (c .before .place .ensures, e) (c .before .before .before .before .before .before .before .before .pre .0 .isProcedure (c .before .before .before .before .before .before .before .before .args .r) (c .before .before .before .before .before .before .before .before .pre .1))
+shared-slice-read-rule-block c =
+    let pre = c .before .before .before .before .before .before .before .before .pre in
+    let e = ap (λ (x : Tables.Rule). x .procedure) (c .before .before .before .before .before .rule-at .ensures) in
+    rw (c .before .place .ensures, e) (pre .0 .isProcedure (c .before .before .before .before .before .before .before .before .args .r) (pre .1))
 
 place-requires-2 : tie.Need-place-requires-2
 place-requires-2 c κs = search needs
@@ -32,30 +31,41 @@ mul-rule-block-2 : tie.Need-mul-rule-block-2
 mul-rule-block-2 c = search needs
 
 element-copy-out-rule-block : tie.Need-element-copy-out-rule-block
-element-copy-out-rule-block c = let e = ap (λ (x : Tables.Rule). x .node) (c .before .before .before .before .before .before .rule-at .ensures) in
-    rw (c .place2 .ensures, e) (c .before .before .before .before .before .before .before .before .before .pre .0 .isNode (c .before .before .before .before .before .before .before .before .before .args .r) (c .before .before .before .before .before .before .before .before .before .pre .1))
+element-copy-out-rule-block c =
+    let pre = c .before .before .before .before .before .before .before .before .before .pre in
+    let e = ap (λ (x : Tables.Rule). x .node) (c .before .before .before .before .before .before .rule-at .ensures) in
+    rw (c .place2 .ensures, e) (pre .0 .isNode (c .before .before .before .before .before .before .before .before .before .args .r) (pre .1))
 
 rule-block-requires : tie.Need-rule-block-requires
-rule-block-requires c κs = let e = ap (λ (x : Tables.Rule). x .procedure) (c .before .before .before .before .before .before .before .rule-at .ensures) in
-    let h : c .before .before .before .place .result < length (c .before .before .before .before .before .before .before .before .before .before .args .counts .now) = rw (c .before .before .before .place .ensures, e) (c .before .before .before .before .before .before .before .before .before .before .pre .0 .isProcedure (c .before .before .before .before .before .before .before .before .before .before .args .r) (c .before .before .before .before .before .before .before .before .before .before .pre .1)) in
-    let p = c .before .before .before .before .before .before .before .before .before .before .pre .0 .procedure (c .before .before .before .place .result) h in
+rule-block-requires c κs =
+    let args = c .before .before .before .before .before .before .before .before .before .before .args in
+    let pre = c .before .before .before .before .before .before .before .before .before .before .pre in
+    let e = ap (λ (x : Tables.Rule). x .procedure) (c .before .before .before .before .before .before .before .rule-at .ensures) in
+    let h : c .before .before .before .place .result < length (args .counts .now) = rw (c .before .before .before .place .ensures, e) (pre .0 .isProcedure (args .r) (pre .1)) in
+    let p = pre .0 .procedure (c .before .before .before .place .result) h in
     (p .layout, p .parameters, p .narrow)
 
 mul-place : tie.Need-mul-place
 mul-place c = search needs
 
 element-copy-out-place : tie.Need-element-copy-out-place
-element-copy-out-place c = let e = ap (λ (x : Tables.Rule). x .procedure) (c .before .before .before .before .before .before .before .before .before .rule-at .ensures) in
-    let h : c .before .before .before .before .before .place .result < length (c .before .before .before .before .before .before .before .before .before .before .before .before .args .counts .now) = rw (c .before .before .before .before .before .place .ensures, e) (c .before .before .before .before .before .before .before .before .before .before .before .before .pre .0 .isProcedure (c .before .before .before .before .before .before .before .before .before .before .before .before .args .r) (c .before .before .before .before .before .before .before .before .before .before .before .before .pre .1)) in
-    omega (arith, c .before .before .before .before .before .before .before .before .before .before .before .before .pre .0 .procedures)
+element-copy-out-place c =
+    let args = c .before .before .before .before .before .before .before .before .before .before .before .before .args in
+    let pre = c .before .before .before .before .before .before .before .before .before .before .before .before .pre in
+    let e = ap (λ (x : Tables.Rule). x .procedure) (c .before .before .before .before .before .before .before .before .before .rule-at .ensures) in
+    let h : c .before .before .before .before .before .place .result < length (args .counts .now) = rw (c .before .before .before .before .before .place .ensures, e) (pre .0 .isProcedure (args .r) (pre .1)) in
+    omega (arith, pre .0 .procedures)
 
 place-requires-3 : tie.Need-place-requires-3
 place-requires-3 c κs = search needs
 
 put-block-requires : tie.Need-put-block-requires
-put-block-requires c κs = let e = ap (λ (x : Tables.Rule). x .procedure) (c .before .before .before .before .before .before .before .before .before .before .before .rule-at .ensures) in
-    let h : c .before .before .before .before .before .before .before .place .result < length (c .before .before .before .before .before .before .before .before .before .before .before .before .before .before .args .counts .now) = rw (c .before .before .before .before .before .before .before .place .ensures, e) (c .before .before .before .before .before .before .before .before .before .before .before .before .before .before .pre .0 .isProcedure (c .before .before .before .before .before .before .before .before .before .before .before .before .before .before .args .r) (c .before .before .before .before .before .before .before .before .before .before .before .before .before .before .pre .1)) in
-    rw (c .place3 .ensures) (c .before .before .before .before .before .before .before .before .before .before .before .before .before .before .pre .0 .procedure (c .before .before .before .before .before .before .before .place .result) h .inside)
+put-block-requires c κs =
+    let args = c .before .before .before .before .before .before .before .before .before .before .before .before .before .before .args in
+    let pre = c .before .before .before .before .before .before .before .before .before .before .before .before .before .before .pre in
+    let e = ap (λ (x : Tables.Rule). x .procedure) (c .before .before .before .before .before .before .before .before .before .before .before .rule-at .ensures) in
+    let h : c .before .before .before .before .before .before .before .place .result < length (args .counts .now) = rw (c .before .before .before .before .before .before .before .place .ensures, e) (pre .0 .isProcedure (args .r) (pre .1)) in
+    rw (c .place3 .ensures) (pre .0 .procedure (c .before .before .before .before .before .before .before .place .result) h .inside)
 
 returns : tie.Need-returns
 returns c = let s = ap (λ (x : Tables.Rule). x .symbol) (c .before .before .before .before .before .before .before .before .before .before .before .before .rule-at .ensures) in

@@ -1,6 +1,6 @@
 -- Invariant: the kind has the facts of the first r rules. Measure: the rules left.
-use mathlib.Core.Path.{_≡_, refl, ap, sym, _∙_}
-use Prim.Native.Nat.{ℕ, _+_, _*_, _-_, _/_, _≤_, _<_}
+use mathlib.Core.Path.{_≡_, refl}
+use Prim.Native.Nat.{_-_, _/_, _≤_}
 use native.Mathlib.Omega.{arith}
 use lib.ListN.{length}
 use Rattle.lanes.specs.Layouts.{layoutOf}
@@ -27,10 +27,14 @@ loop-less : tie.Need-loop-less Inv-loop μ-loop
 loop-less c = omega arith
 
 loop-again : tie.Need-loop-again Inv-loop μ-loop
-loop-again c = (c .before .before .before .loop .inv .0, omega arith, rules-more _ _ _ _ _ _ _ _ _ (c .before .before .before .loop .r) (c .before .before .before .loop .inv .2) (c .add-rule .ensures))
+loop-again c =
+    let loop = c .before .before .before .loop in
+    (loop .inv .0, omega arith, rules-more _ _ _ _ _ _ _ _ _ (loop .r) (loop .inv .2) (c .add-rule .ensures))
 
 returns : tie.Need-returns Inv-loop μ-loop
-returns c = let e : c .before .loop .r ≡ length (c .before .before .before .before .args .rules .now) / 3 = omega arith in rw e at (c .before .loop .inv .2)
+returns c =
+    let loop = c .before .loop in
+    let e : loop .r ≡ length (c .before .before .before .before .args .rules .now) / 3 = omega arith in rw e at (loop .inv .2)
 
 pub add-rules-spec : {M : Type 1} → statement M
 add-rules-spec =

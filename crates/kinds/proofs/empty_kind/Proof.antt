@@ -1,12 +1,8 @@
 -- The empty forest is symbol 0 over two kinds that have input state 0 and no fact.
-use mathlib.Core.Path.{_≡_, refl, ap, sym, _∙_}
+use mathlib.Core.Path.{ap, sym, _∙_}
 use mathlib.Core.List.{List, [], _∷_, _++_}
-use Prim.Native.Nat.{ℕ, zero, suc, _^_, _<_}
+use Prim.Native.Nat.{ℕ}
 use native.Mathlib.Omega.{arith}
-use lib.ListN.{getD}
-use lib.Pow.{pow-pos}
-use borrow.Author.Needs.{needs}
-use Rattle.model.specs.Tables.{contract}
 use Rattle.kind_words.specs.Ends.{kind-five, kind-of-empty, below-words}
 use Rattle.kinds.proofs.empty_kind.Statement.{statement}
 use Rattle.kinds.proofs.empty_kind.Tie as tie

@@ -1,6 +1,6 @@
 -- Invariant: the word has the states of the first r rows. Measure: the rows left.
-use mathlib.Core.Path.{_≡_, refl, ap, sym, _∙_}
-use Prim.Native.Nat.{ℕ, _+_, _*_, _-_, _/_, _≤_, _<_}
+use mathlib.Core.Path.{_≡_, refl}
+use Prim.Native.Nat.{_-_, _/_, _≤_}
 use native.Mathlib.Omega.{arith}
 use lib.ListN.{length}
 use Rattle.foundation.specs.Bits.{or-none, or-more}
@@ -27,10 +27,14 @@ loop-less : tie.Need-loop-less Inv-loop μ-loop
 loop-less c = omega arith
 
 loop-again : tie.Need-loop-again Inv-loop μ-loop
-loop-again c = (c .before .before .loop .inv .0, omega arith, or-more _ (c .before .before .loop .r) _ _ (c .before .before .loop .inv .2) (c .row-state .ensures))
+loop-again c =
+    let loop = c .before .before .loop in
+    (loop .inv .0, omega arith, or-more _ (loop .r) _ _ (loop .inv .2) (c .row-state .ensures))
 
 returns : tie.Need-returns Inv-loop μ-loop
-returns c = let e : c .before .loop .r ≡ length (c .before .before .before .args .rows .now) / 4 = omega arith in rw e at (c .before .loop .inv .2)
+returns c =
+    let loop = c .before .loop in
+    let e : loop .r ≡ length (c .before .before .before .args .rows .now) / 4 = omega arith in rw e at (loop .inv .2)
 
 pub reached-states-spec : {M : Type 1} → statement M
 reached-states-spec =

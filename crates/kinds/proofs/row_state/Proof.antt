@@ -1,12 +1,8 @@
 -- A row's states are below 32, so that its bits fit; a row of another symbol gives nothing.
-use mathlib.Core.Path.{_≡_, refl, ap, sym, _∙_}
-use mathlib.Core.List.{List}
-use Prim.Native.Nat.{ℕ, _+_, _*_, _-_, _/_, _^_, _≤_, _<_}
+use mathlib.Core.Path.{ap, sym, _∙_}
+use Prim.Native.Nat.{_-_, _/_, _^_, _<_}
 use native.Mathlib.Omega.{arith}
-use lib.ListN.{length, getD}
-use lib.Pow.{pow-pos}
 use borrow.Author.Needs.{needs}
-use borrow.Author.Tests.{eq-eqb, ne-eqb}
 use lib.Bits.{bitAnd}
 use Rattle.model.specs.Tables
 use Rattle.kind_words.specs.Blocks.{one-at}
@@ -21,37 +17,48 @@ wide-requires : tie.Need-wide-requires
 wide-requires c κs = search needs
 
 shr-up : tie.Need-shr-up
-shr-up c = let e = ap (λ (x : Tables.InputRow). x .left) (c .before .before .before .before .input-row-at .ensures) in
-    let h : c .wide .result < 32 = rw (c .wide .ensures, e) (c .before .before .before .before .before .before .pre .0 .left (c .before .before .before .before .before .before .args .r) (c .before .before .before .before .before .before .pre .1)) in
+shr-up c =
+    let pre = c .before .before .before .before .before .before .pre in
+    let e = ap (λ (x : Tables.InputRow). x .left) (c .before .before .before .before .input-row-at .ensures) in
+    let h : c .wide .result < 32 = rw (c .wide .ensures, e) (pre .0 .left (c .before .before .before .before .before .before .args .r) (pre .1)) in
     omega arith
 
 wide-requires-2 : tie.Need-wide-requires-2
 wide-requires-2 c κs = search needs
 
 shr-up-2 : tie.Need-shr-up-2
-shr-up-2 c = let e = ap (λ (x : Tables.InputRow). x .right) (c .before .before .before .before .before .input-row-at .ensures) in
-    let h : c .wide2 .result < 32 = rw (c .wide2 .ensures, e) (c .before .before .before .before .before .before .before .pre .0 .right (c .before .before .before .before .before .before .before .args .r) (c .before .before .before .before .before .before .before .pre .1)) in
+shr-up-2 c =
+    let pre = c .before .before .before .before .before .before .before .pre in
+    let e = ap (λ (x : Tables.InputRow). x .right) (c .before .before .before .before .before .input-row-at .ensures) in
+    let h : c .wide2 .result < 32 = rw (c .wide2 .ensures, e) (pre .0 .right (c .before .before .before .before .before .before .before .args .r) (pre .1)) in
     omega arith
 
 wide-requires-3 : tie.Need-wide-requires-3
 wide-requires-3 c κs = search needs
 
 up-requires : tie.Need-up-requires
-up-requires c κs = let e = ap (λ (x : Tables.InputRow). x .state) (c .before .before .before .before .before .before .input-row-at .ensures) in
-    let h : c .wide3 .result < 32 = rw (c .wide3 .ensures, e) (c .before .before .before .before .before .before .before .before .pre .0 .state (c .before .before .before .before .before .before .before .before .args .r) (c .before .before .before .before .before .before .before .before .pre .1)) in
+up-requires c κs =
+    let args = c .before .before .before .before .before .before .before .before .args in
+    let pre = c .before .before .before .before .before .before .before .before .pre in
+    let e = ap (λ (x : Tables.InputRow). x .state) (c .before .before .before .before .before .before .input-row-at .ensures) in
+    let h : c .wide3 .result < 32 = rw (c .wide3 .ensures, e) (pre .0 .state (args .r) (pre .1)) in
     let l : c .wide3 .result < 64 = omega arith in
-    (l, one-at (bitAnd (c .before .before .before .before .before .before .before .before .args .left / 2 ^ c .before .before .wide .result) (c .before .before .before .before .before .before .before .before .args .right / 2 ^ c .before .wide2 .result)) (c .wide3 .result) 64 l .0)
+    (l, one-at (bitAnd (args .left / 2 ^ c .before .before .wide .result) (args .right / 2 ^ c .before .wide2 .result)) (c .wide3 .result) 64 l .0)
 
 returns : tie.Need-returns
-returns c = let e = ap (λ (x : Tables.InputRow). x .symbol) (c .before .before .before .before .before .before .before .input-row-at .ensures) in
+returns c =
+    let args = c .before .before .before .before .before .before .before .before .before .args in
+    let e = ap (λ (x : Tables.InputRow). x .symbol) (c .before .before .before .before .before .before .before .input-row-at .ensures) in
     let q = ap (λ (x : Tables.InputRow). x .state) (c .before .before .before .before .before .before .before .input-row-at .ensures) in
     let x = ap (λ (x : Tables.InputRow). x .left) (c .before .before .before .before .before .before .before .input-row-at .ensures) in
     let y = ap (λ (x : Tables.InputRow). x .right) (c .before .before .before .before .before .before .before .input-row-at .ensures) in
-    c .up .ensures ∙ row-taken (c .before .before .before .before .before .before .before .before .before .args .rows .now) (c .before .before .before .before .before .before .before .before .before .args .symbol .0) (c .before .before .before .before .before .before .before .before .before .args .left) (c .before .before .before .before .before .before .before .before .before .args .right) (c .before .before .before .before .before .before .before .before .before .args .r) (c .before .wide3 .result) (c .before .before .before .wide .result) (c .before .before .wide2 .result) (sym e ∙ c .before .before .before .before .if1 .taken) (c .before .wide3 .ensures ∙ q) (c .before .before .before .wide .ensures ∙ x) (c .before .before .wide2 .ensures ∙ y)
+    c .up .ensures ∙ row-taken (args .rows .now) (args .symbol .0) (args .left) (args .right) (args .r) (c .before .wide3 .result) (c .before .before .before .wide .result) (c .before .before .wide2 .result) (sym e ∙ c .before .before .before .before .if1 .taken) (c .before .wide3 .ensures ∙ q) (c .before .before .before .wide .ensures ∙ x) (c .before .before .wide2 .ensures ∙ y)
 
 returns-2 : tie.Need-returns-2
-returns-2 c = let e = ap (λ (x : Tables.InputRow). x .symbol) (c .before .before .before .input-row-at .ensures) in
-    row-skipped (c .before .before .before .before .before .args .rows .now) (c .before .before .before .before .before .args .symbol .0) (c .before .before .before .before .before .args .left) (c .before .before .before .before .before .args .right) (c .before .before .before .before .before .args .r) (λ z. c .if1 .left (e ∙ z))
+returns-2 c =
+    let args = c .before .before .before .before .before .args in
+    let e = ap (λ (x : Tables.InputRow). x .symbol) (c .before .before .before .input-row-at .ensures) in
+    row-skipped (args .rows .now) (args .symbol .0) (args .left) (args .right) (args .r) (λ z. c .if1 .left (e ∙ z))
 
 pub row-state-spec : {M : Type 1} → statement M
 row-state-spec =

@@ -1,29 +1,31 @@
 -- A procedure's lanes are at least one bit and at most the width, so that the step between the bits taken is not 0.
-use mathlib.Core.Path.{_≡_, refl, ap, sym, _∙_}
-use mathlib.Core.List.{List}
-use Prim.Native.Nat.{ℕ, _+_, _*_, _-_, _/_, _^_, _≤_, _<_}
+use mathlib.Core.Path.{_≡_, _∙_}
+use Prim.Native.Nat.{_-_, _^_, _≤_, _<_}
 use native.Mathlib.Omega.{arith}
-use lib.ListN.{length, getD}
-use lib.Pow.{pow-pos}
-use borrow.Author.Needs.{needs}
-use borrow.Author.Tests.{eq-eqb, ne-eqb}
 use Rattle.lanes.proofs.Room.{square-small, power-small, pow-some, quotient}
 use Rattle.kinds.proofs.rule_block.Statement.{statement}
 use Rattle.kinds.proofs.rule_block.Tie as tie
 
 assignments-requires : tie.Need-assignments-requires
-assignments-requires c κs = (c .pre .1, omega (arith, square-small (c .args .layout .states) (c .pre .0 .few)))
+assignments-requires c κs =
+    let pre = c .pre in
+    (pre .1, omega (arith, square-small (c .args .layout .states) (pre .0 .few)))
 
 div-narrow-word : tie.Need-div-narrow-word
-div-narrow-word c = let e : c .before .assignments .result ≡ c .before .before .args .layout .states ^ c .before .before .args .count = c .before .assignments .ensures in
-    omega (arith, pow-some (c .before .before .args .layout .states) (c .before .before .args .count) (c .before .before .pre .0 .some))
+div-narrow-word c =
+    let args = c .before .before .args in
+    let e : c .before .assignments .result ≡ args .layout .states ^ args .count = c .before .assignments .ensures in
+    omega (arith, pow-some (args .layout .states) (args .count) (c .before .before .pre .0 .some))
 
 narrow-word-requires : tie.Need-narrow-word-requires
-narrow-word-requires c κs = let e : c .before .assignments .result ≡ c .before .before .args .layout .states ^ c .before .before .args .count = c .before .assignments .ensures in
-    let some : 0 < c .before .assignments .result = rw e (pow-some (c .before .before .args .layout .states) (c .before .before .args .count) (c .before .before .pre .0 .some)) in
-    let most : c .before .assignments .result ≤ c .before .before .args .layout .width = rw e (c .before .before .pre .2) in
-    let q = quotient (c .before .assignments .result) (c .before .before .args .layout .width) some most in
-    (c .before .before .pre .0 .laid .sized, some, omega (arith, power-small (c .before .before .args .layout .states) (c .before .before .args .count) (c .before .before .pre .0 .some) (c .before .before .pre .0 .few) (c .before .before .pre .1)), most, q .0, q .1)
+narrow-word-requires c κs =
+    let args = c .before .before .args in
+    let pre = c .before .before .pre in
+    let e : c .before .assignments .result ≡ args .layout .states ^ args .count = c .before .assignments .ensures in
+    let some : 0 < c .before .assignments .result = rw e (pow-some (args .layout .states) (args .count) (pre .0 .some)) in
+    let most : c .before .assignments .result ≤ args .layout .width = rw e (pre .2) in
+    let q = quotient (c .before .assignments .result) (args .layout .width) some most in
+    (pre .0 .laid .sized, some, omega (arith, power-small (args .layout .states) (args .count) (pre .0 .some) (pre .0 .few) (pre .1)), most, q .0, q .1)
 
 returns : tie.Need-returns
 returns c = c .narrow-word .ensures ∙ rw (c .before .before .assignments .ensures)

@@ -1,15 +1,11 @@
-use mathlib.Core.Path.{_≡_, refl, ap, sym, _∙_}
-use Prim.Native.Nat.{ℕ, zero, suc, _+_, _*_, _-_, _/_, _%_, _^_, _≤_, _<_}
+-- Invariant: the word has the call over the first y lanes of the second argument. Measure: the lanes left. A lane times
+-- bits that stand a lane apart fits into the word.
+use mathlib.Core.Path.{_≡_, _∙_}
+use Prim.Native.Nat.{_+_, _*_, _-_, _≤_}
 use native.Mathlib.Omega.{arith}
-use lib.ListN.{length, getD}
-use lib.Pow.{pow-pos}
-use lib.Bits.{bitAnd}
-use borrow.Author.Needs.{needs}
-use borrow.Author.Tests.{eq-eqb, ne-eqb}
-use Rattle.foundation.specs.Bits.{orTo, or-more, or-none}
-use Rattle.kind_words.specs.Lanes.{Sized, Laid, StatesAt, symbolRow, symbolWord, callRow, callTwo, callOne}
-use Rattle.kind_words.specs.Blocks.{factsFrom, widened, narrowedLane, narrowed, withBlock, one-at, narrowed-lane-lt}
-use Rattle.lanes.proofs.Room.{room, put-fits, under, square, times-fits, lane-lt, thin, thin-lt, pow0, pow1, pow2, one-up, row-room, side}
+use Rattle.foundation.specs.Bits.{or-more, or-none}
+use Rattle.kind_words.specs.Lanes.{callRow}
+use Rattle.lanes.proofs.Room.{room, under, times-fits}
 use Rattle.lanes.proofs.call_row.Statement.{statement}
 use Rattle.lanes.proofs.call_row.Tie as tie
 
@@ -23,13 +19,22 @@ loop-holds : tie.Need-loop-holds Inv-loop μ-loop
 loop-holds c = (omega arith, omega arith, omega arith, or-none _)
 
 shr-spread : tie.Need-shr-spread Inv-loop μ-loop
-shr-spread c = omega (arith, room (c .before .before .args .states) (c .before .before .args .width) (c .before .loop .y) (c .before .before .pre .0 .sized .some) (c .before .before .pre .0 .sized .fit) (omega arith))
+shr-spread c =
+    let args = c .before .before .args in
+    let pre = c .before .before .pre in
+    omega (arith, room (args .states) (args .width) (c .before .loop .y) (pre .0 .sized .some) (pre .0 .sized .fit) (omega arith))
 
 spread-requires : tie.Need-spread-requires Inv-loop μ-loop
-spread-requires c κs = (omega arith, times-fits (c .before .before .args .states) (c .before .before .args .width) (c .before .before .args .ones) (c .before .before .args .starts) _ (c .before .before .args .facts) (c .before .loop .code) (c .before .before .pre .0) (under (c .before .before .args .width) (c .before .before .args .first) _ (c .before .before .pre .2)))
+spread-requires c κs =
+    let args = c .before .before .args in
+    let pre = c .before .before .pre in
+    (omega arith, times-fits (args .states) (args .width) (args .ones) (args .starts) _ (args .facts) (c .before .loop .code) (pre .0) (under (args .width) (args .first) _ (pre .2)))
 
 add-place : tie.Need-add-place Inv-loop μ-loop
-add-place c = omega (arith, room (c .before .before .before .args .states) (c .before .before .before .args .width) (c .before .before .loop .y) (c .before .before .before .pre .0 .sized .some) (c .before .before .before .pre .0 .sized .fit) (omega arith))
+add-place c =
+    let args = c .before .before .before .args in
+    let pre = c .before .before .before .pre in
+    omega (arith, room (args .states) (args .width) (c .before .before .loop .y) (pre .0 .sized .some) (pre .0 .sized .fit) (omega arith))
 
 add-code : tie.Need-add-code Inv-loop μ-loop
 add-code c = omega arith
@@ -41,10 +46,14 @@ loop-less : tie.Need-loop-less Inv-loop μ-loop
 loop-less c = omega arith
 
 loop-again : tie.Need-loop-again Inv-loop μ-loop
-loop-again c = (omega arith, omega arith, omega arith, or-more _ (c .before .before .loop .y) _ _ (c .before .before .loop .inv .3) (c .spread .ensures ∙ rw (c .before .before .loop .inv .1, c .before .before .loop .inv .2)))
+loop-again c =
+    let loop = c .before .before .loop in
+    (omega arith, omega arith, omega arith, or-more _ (loop .y) _ _ (loop .inv .3) (c .spread .ensures ∙ rw (loop .inv .1, loop .inv .2)))
 
 returns : tie.Need-returns Inv-loop μ-loop
-returns c = let e : c .before .loop .y ≡ c .before .before .args .states = omega arith in rw e at (c .before .loop .inv .3)
+returns c =
+    let loop = c .before .loop in
+    let e : loop .y ≡ c .before .before .args .states = omega arith in rw e at (loop .inv .3)
 
 pub call-row-spec : {M : Type 1} → statement M
 call-row-spec =

@@ -1,5 +1,4 @@
 -- Both sides of the test.
-use mathlib.Core.Path.{_≡_}
 use borrow.Author.Tests.{eq-eqb, ne-eqb}
 use Rattle.layouts.proofs.first_weight.Statement.{statement}
 use Rattle.layouts.proofs.first_weight.Tie as tie

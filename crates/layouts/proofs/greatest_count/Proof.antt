@@ -1,10 +1,10 @@
 -- Invariant: the greatest of the first p counts. Measure: the counts left.
-use mathlib.Core.Path.{_≡_, refl, ap, sym, _∙_}
-use Prim.Native.Nat.{ℕ, _+_, _*_, _-_, _≤_, _<_}
+use mathlib.Core.Path.{_≡_}
+use Prim.Native.Nat.{ℕ, _-_, _≤_, _<_}
 use native.Mathlib.Omega.{arith}
-use lib.ListN.{length, getD}
+use lib.ListN.{length}
 use Rattle.model.specs.Tables.{countOf}
-use Rattle.layouts.specs.LaneWords.{Greatest, bound-more, bound-all}
+use Rattle.layouts.specs.LaneWords.{bound-more, bound-all}
 use Rattle.layouts.proofs.greatest_count.Statement.{statement}
 use Rattle.layouts.proofs.greatest_count.Tie as tie
 
@@ -33,11 +33,16 @@ loop-less : tie.Need-loop-less Inv-loop μ-loop
 loop-less c = omega arith
 
 loop-again : tie.Need-loop-again Inv-loop μ-loop
-loop-again c = (omega arith, omega (arith, c .larger .ensures, c .before .before .before .before .before .pre (c .before .before .before .loop .p)), bound-more (c .before .before .before .before .before .args .counts .now) (c .before .before .before .loop .p) _ _ (c .before .before .before .loop .inv .2) (c .larger .ensures))
+loop-again c =
+    let loop = c .before .before .before .loop in
+    (omega arith, omega (arith, c .larger .ensures, c .before .before .before .before .before .pre (loop .p)), bound-more (c .before .before .before .before .before .args .counts .now) (loop .p) _ _ (loop .inv .2) (c .larger .ensures))
 
 returns : tie.Need-returns Inv-loop μ-loop
-returns c = let e : c .before .loop .p ≡ length (c .before .before .before .args .counts .now) = omega arith in
-    record { most = c .before .loop .inv .1; bound = bound-all (c .before .before .before .args .counts .now) _ (rw e at (c .before .loop .inv .2)) }
+returns c =
+    let args = c .before .before .before .args in
+    let loop = c .before .loop in
+    let e : loop .p ≡ length (args .counts .now) = omega arith in
+    record { most = loop .inv .1; bound = bound-all (args .counts .now) _ (rw e at (loop .inv .2)) }
 
 pub greatest-count-spec : {M : Type 1} → statement M
 greatest-count-spec =

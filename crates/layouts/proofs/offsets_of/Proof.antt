@@ -1,8 +1,8 @@
 -- Invariant: the first p offsets stand in the table. Measure: the procedures left.
-use mathlib.Core.Path.{_≡_, refl, ap, sym, _∙_}
-use Prim.Native.Nat.{ℕ, _+_, _*_, _-_, _≤_, _<_}
+use mathlib.Core.Path.{_≡_, refl}
+use Prim.Native.Nat.{ℕ, _-_, _≤_, _<_}
 use native.Mathlib.Omega.{arith}
-use lib.ListN.{length, getD, set, length-set}
+use lib.ListN.{length, getD, length-set}
 use Rattle.model.specs.Facts.{offset}
 use Rattle.layouts.specs.LaneWords.{entries-more}
 use Rattle.layouts.proofs.offsets_of.Statement.{statement}
@@ -18,7 +18,9 @@ loop-holds : tie.Need-loop-holds Inv-loop μ-loop
 loop-holds c = (omega arith, refl, λ i h. absurd (omega arith))
 
 offset-entry-requires : tie.Need-offset-entry-requires Inv-loop μ-loop
-offset-entry-requires c κs = (c .before .before .before .pre .0, omega arith, c .before .before .before .pre .1 (c .before .loop .p) (omega arith))
+offset-entry-requires c κs =
+    let pre = c .before .before .before .pre in
+    (pre .0, omega arith, pre .1 (c .before .loop .p) (omega arith))
 
 mul-offsets : tie.Need-mul-offsets Inv-loop μ-loop
 mul-offsets c = omega (arith, c .before .before .before .before .pre .0 .procedures≤)
@@ -34,12 +36,16 @@ loop-less c = omega arith
 
 loop-again : tie.Need-loop-again Inv-loop μ-loop
 loop-again c =
-    let h : c .before .before .loop .p < length (c .before .before .loop .offsets) = omega (arith, c .before .before .before .before .pre .0 .procedures≤, c .before .before .loop .inv .1) in
-    (omega arith, simp length-set (c .before .before .loop .inv .1), entries-more (λ (i : ℕ). offset (c .before .before .before .before .args .states) (c .before .before .before .before .args .counts .now) i) (c .before .before .loop .offsets) (c .before .before .loop .p) _ h (c .before .before .loop .inv .2) (c .offset-entry .ensures))
+    let args = c .before .before .before .before .args in
+    let loop = c .before .before .loop in
+    let h : loop .p < length (loop .offsets) = omega (arith, c .before .before .before .before .pre .0 .procedures≤, loop .inv .1) in
+    (omega arith, simp length-set (loop .inv .1), entries-more (λ (i : ℕ). offset (args .states) (args .counts .now) i) (loop .offsets) (loop .p) _ h (loop .inv .2) (c .offset-entry .ensures))
 
 returns : tie.Need-returns Inv-loop μ-loop
-returns c = let e : c .before .loop .p ≡ length (c .before .before .before .args .counts .now) = omega arith in
-    rw e at (c .before .loop .inv .2)
+returns c =
+    let loop = c .before .loop in
+    let e : loop .p ≡ length (c .before .before .before .args .counts .now) = omega arith in
+    rw e at (loop .inv .2)
 
 pub offsets-of-spec : {M : Type 1} → statement M
 offsets-of-spec =

@@ -1,8 +1,7 @@
 -- Invariant: the word has the first bit of each of the first q lanes. Measure: the lanes left.
-use mathlib.Core.Path.{_≡_, refl, ap, sym, _∙_}
-use Prim.Native.Nat.{ℕ, _+_, _*_, _-_, _^_, _≤_, _<_}
+use mathlib.Core.Path.{_≡_, _∙_}
+use Prim.Native.Nat.{ℕ, _*_, _-_, _^_, _≤_, _<_}
 use native.Mathlib.Omega.{arith}
-use lib.Pow.{pow-pos}
 use Rattle.foundation.specs.Bits.{orTo, or-none, or-more}
 use Rattle.lanes.proofs.Room.{room, one-up}
 use Rattle.layouts.proofs.starts_word.Statement.{statement}
@@ -18,12 +17,19 @@ loop-holds : tie.Need-loop-holds Inv-loop μ-loop
 loop-holds c = (omega arith, omega arith, or-none _)
 
 up-requires : tie.Need-up-requires Inv-loop μ-loop
-up-requires c κs = let r = room (c .before .before .args .states) (c .before .before .args .width) (c .before .loop .q) (c .before .before .pre .some) (c .before .before .pre .fit) (omega arith) in
-    let h : c .before .loop .place < 64 = omega (arith, c .before .before .pre .some) in
-    (h, one-up (c .before .loop .place) h)
+up-requires c κs =
+    let args = c .before .before .args in
+    let pre = c .before .before .pre in
+    let loop = c .before .loop in
+    let r = room (args .states) (args .width) (loop .q) (pre .some) (pre .fit) (omega arith) in
+    let h : loop .place < 64 = omega (arith, pre .some) in
+    (h, one-up (loop .place) h)
 
 add-place : tie.Need-add-place Inv-loop μ-loop
-add-place c = omega (arith, room (c .before .before .before .args .states) (c .before .before .before .args .width) (c .before .before .loop .q) (c .before .before .before .pre .some) (c .before .before .before .pre .fit) (omega arith))
+add-place c =
+    let args = c .before .before .before .args in
+    let pre = c .before .before .before .pre in
+    omega (arith, room (args .states) (args .width) (c .before .before .loop .q) (pre .some) (pre .fit) (omega arith))
 
 add-q : tie.Need-add-q Inv-loop μ-loop
 add-q c = omega arith
@@ -32,10 +38,14 @@ loop-less : tie.Need-loop-less Inv-loop μ-loop
 loop-less c = omega arith
 
 loop-again : tie.Need-loop-again Inv-loop μ-loop
-loop-again c = (omega arith, omega arith, or-more _ (c .before .before .loop .q) _ _ (c .before .before .loop .inv .2) (c .up .ensures ∙ rw (c .before .before .loop .inv .1)))
+loop-again c =
+    let loop = c .before .before .loop in
+    (omega arith, omega arith, or-more _ (loop .q) _ _ (loop .inv .2) (c .up .ensures ∙ rw (loop .inv .1)))
 
 returns : tie.Need-returns Inv-loop μ-loop
-returns c = let e : c .before .loop .q ≡ c .before .before .args .states = omega arith in rw e at (c .before .loop .inv .2)
+returns c =
+    let loop = c .before .loop in
+    let e : loop .q ≡ c .before .before .args .states = omega arith in rw e at (loop .inv .2)
 
 pub starts-word-spec : {M : Type 1} → statement M
 starts-word-spec =

@@ -1,10 +1,7 @@
 -- One answer for each count of parameters; an argument's word is read only where the procedure has that parameter.
-use mathlib.Core.Path.{_≡_, refl, ap, sym, _∙_}
-use mathlib.Core.List.{List}
-use Prim.Native.Nat.{ℕ, _+_, _*_, _-_, _/_, _^_, _≤_, _<_}
+use mathlib.Core.Path.{_∙_}
+use Prim.Native.Nat.{_-_, _<_}
 use native.Mathlib.Omega.{arith}
-use lib.ListN.{length, getD}
-use lib.Pow.{pow-pos}
 use borrow.Author.Needs.{needs}
 use borrow.Author.Tests.{eq-eqb, ne-eqb}
 use Rattle.lanes.proofs.Room.{square-small, times-fits, ones-less}
@@ -12,7 +9,10 @@ use Rattle.node_words.proofs.call_word.Statement.{statement}
 use Rattle.node_words.proofs.call_word.Tie as tie
 
 spread-requires : tie.Need-spread-requires
-spread-requires c κs = (omega arith, times-fits (c .before .args .layout .states) (c .before .args .layout .width) (c .before .args .layout .ones) (c .before .args .layout .starts) (c .before .args .layout .ones) (c .before .args .facts) 0 (c .before .pre .0 .laid) (ones-less (c .before .args .layout .width) (c .before .args .layout .ones) (c .before .pre .0 .laid .lane)))
+spread-requires c κs =
+    let args = c .before .args in
+    let pre = c .before .pre in
+    (omega arith, times-fits (args .layout .states) (args .layout .width) (args .layout .ones) (args .layout .starts) (args .layout .ones) (args .facts) 0 (pre .0 .laid) (ones-less (args .layout .width) (args .layout .ones) (pre .0 .laid .lane)))
 
 returns : tie.Need-returns
 returns c = rw (eq-eqb (c .before .before .args .count) 0 (c .before .if1 .taken)) (c .spread .ensures)
@@ -31,7 +31,9 @@ call-one-requires : tie.Need-call-one-requires
 call-one-requires c κs = search needs
 
 returns-2 : tie.Need-returns-2
-returns-2 c = rw (ne-eqb (c .before .before .before .before .before .args .count) 0 (c .before .before .before .before .if1 .left), eq-eqb (c .before .before .before .before .before .args .count) 1 (c .before .if2 .taken)) (c .call-one .ensures ∙ rw (c .before .before .before .place .ensures))
+returns-2 c =
+    let args = c .before .before .before .before .before .args in
+    rw (ne-eqb (args .count) 0 (c .before .before .before .before .if1 .left), eq-eqb (args .count) 1 (c .before .if2 .taken)) (c .call-one .ensures ∙ rw (c .before .before .before .place .ensures))
 
 place-requires-2 : tie.Need-place-requires-2
 place-requires-2 c κs = search needs
@@ -44,10 +46,14 @@ element-copy-out-call-two c = let h : c .before .before .before .before .before 
     omega (arith, c .place2 .ensures)
 
 call-two-requires : tie.Need-call-two-requires
-call-two-requires c κs = (c .before .before .before .before .before .before .pre .0 .laid, omega (arith, square-small (c .before .before .before .before .before .before .args .layout .states) (c .before .before .before .before .before .before .pre .0 .few)))
+call-two-requires c κs =
+    let pre = c .before .before .before .before .before .before .pre in
+    (pre .0 .laid, omega (arith, square-small (c .before .before .before .before .before .before .args .layout .states) (pre .0 .few)))
 
 returns-3 : tie.Need-returns-3
-returns-3 c = rw (ne-eqb (c .before .before .before .before .before .before .before .args .count) 0 (c .before .before .before .before .before .before .if1 .left), ne-eqb (c .before .before .before .before .before .before .before .args .count) 1 (c .before .before .before .if2 .left)) (c .call-two .ensures ∙ rw (c .before .before .before .before .before .place .ensures, c .before .before .place2 .ensures))
+returns-3 c =
+    let args = c .before .before .before .before .before .before .before .args in
+    rw (ne-eqb (args .count) 0 (c .before .before .before .before .before .before .if1 .left), ne-eqb (args .count) 1 (c .before .before .before .if2 .left)) (c .call-two .ensures ∙ rw (c .before .before .before .before .before .place .ensures, c .before .before .place2 .ensures))
 
 pub call-word-spec : {M : Type 1} → statement M
 call-word-spec =

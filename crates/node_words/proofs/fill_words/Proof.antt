@@ -1,7 +1,7 @@
 -- Invariant: the words are those after the first i places of the list. Measure: what is left of the list.
-use mathlib.Core.Path.{_≡_, refl, ap, sym, _∙_}
+use mathlib.Core.Path.{_≡_}
 use mathlib.Core.List.{List}
-use Prim.Native.Nat.{ℕ, _+_, _*_, _-_, _≤_, _<_}
+use Prim.Native.Nat.{ℕ, _+_, _-_, _≤_, _<_}
 use native.Mathlib.Omega.{arith}
 use lib.ListN.{getD}
 use Rattle.model.specs.Tables.{nodeCount}
@@ -32,15 +32,21 @@ place-requires : tie.Need-place-requires Inv-loop μ-loop
 place-requires c κs = tt
 
 node-word-requires : tie.Need-node-word-requires Inv-loop μ-loop
-node-word-requires c κs = (c .before .before .before .before .before .before .before .before .pre .0, rw (c .before .place .ensures) (c .before .before .before .before .before .before .before .before .pre .2 (c .before .before .before .before .loop .i) (omega arith)))
+node-word-requires c κs =
+    let pre = c .before .before .before .before .before .before .before .before .pre in
+    (pre .0, rw (c .before .place .ensures) (pre .2 (c .before .before .before .before .loop .i) (omega arith)))
 
 mul-words : tie.Need-mul-words Inv-loop μ-loop
-mul-words c = let h : c .before .before .place .result < nodeCount (c .before .before .before .before .before .before .before .before .before .args .nodes .now) = rw (c .before .before .place .ensures) (c .before .before .before .before .before .before .before .before .before .pre .2 (c .before .before .before .before .before .loop .i) (omega arith)) in
-    omega (arith, c .before .before .before .before .before .before .before .before .before .pre .0 .fewNodes)
+mul-words c =
+    let pre = c .before .before .before .before .before .before .before .before .before .pre in
+    let h : c .before .before .place .result < nodeCount (c .before .before .before .before .before .before .before .before .before .args .nodes .now) = rw (c .before .before .place .ensures) (pre .2 (c .before .before .before .before .before .loop .i) (omega arith)) in
+    omega (arith, pre .0 .fewNodes)
 
 element-write-words : tie.Need-element-write-words Inv-loop μ-loop
-element-write-words c = let h : c .before .before .place .result < nodeCount (c .before .before .before .before .before .before .before .before .before .args .nodes .now) = rw (c .before .before .place .ensures) (c .before .before .before .before .before .before .before .before .before .pre .2 (c .before .before .before .before .before .loop .i) (omega arith)) in
-    omega (arith, c .before .before .before .before .before .before .before .before .before .pre .0 .fewNodes)
+element-write-words c =
+    let pre = c .before .before .before .before .before .before .before .before .before .pre in
+    let h : c .before .before .place .result < nodeCount (c .before .before .before .before .before .before .before .before .before .args .nodes .now) = rw (c .before .before .place .ensures) (pre .2 (c .before .before .before .before .before .loop .i) (omega arith)) in
+    omega (arith, pre .0 .fewNodes)
 
 add-i : tie.Need-add-i Inv-loop μ-loop
 add-i c = omega arith
@@ -49,10 +55,14 @@ loop-less : tie.Need-loop-less Inv-loop μ-loop
 loop-less c = omega arith
 
 loop-again : tie.Need-loop-again Inv-loop μ-loop
-loop-again c = (omega arith, filled-more _ _ _ _ (c .before .before .before .before .before .loop .i) _ _ (c .before .before .before .before .before .loop .inv .1) (c .before .before .place .ensures) (c .node-word .ensures))
+loop-again c =
+    let loop = c .before .before .before .before .before .loop in
+    (omega arith, filled-more _ _ _ _ (loop .i) _ _ (loop .inv .1) (c .before .before .place .ensures) (c .node-word .ensures))
 
 returns : tie.Need-returns Inv-loop μ-loop
-returns c = let e : c .before .loop .i ≡ c .before .before .before .before .before .args .length = omega arith in rw e at (c .before .loop .inv .1)
+returns c =
+    let loop = c .before .loop in
+    let e : loop .i ≡ c .before .before .before .before .before .args .length = omega arith in rw e at (loop .inv .1)
 
 pub fill-words-spec : {M : Type 1} → statement M
 fill-words-spec =

@@ -1,15 +1,11 @@
 -- By the node's tag; what a good node refers to and calls stands in its tables.
-use mathlib.Core.Path.{_≡_, refl, ap, sym, _∙_}
-use mathlib.Core.List.{List}
-use Prim.Native.Nat.{ℕ, _+_, _*_, _-_, _/_, _^_, _≤_, _<_}
+use mathlib.Core.Path.{_≡_, ap, sym, _∙_}
+use Prim.Native.Nat.{_-_, _<_}
 use native.Mathlib.Omega.{arith}
-use lib.ListN.{length, getD}
-use lib.Pow.{pow-pos}
+use lib.ListN.{length}
 use borrow.Author.Needs.{needs}
-use borrow.Author.Tests.{eq-eqb, ne-eqb}
 use Rattle.model.specs.Tables
 use Rattle.tables.specs.Tuples.{nodeOf}
-use Rattle.lanes.specs.Layouts.{layoutOf}
 use Rattle.kind_words.specs.Listed.{stepOf, step-parameter, step-output, step-call}
 use Rattle.kind_words.specs.Fits.{is-call, output-fits, output-nodes, called-procedure, call-nodes}
 use Rattle.node_words.proofs.node_word.Statement.{statement}
@@ -25,12 +21,15 @@ returns : tie.Need-returns
 returns c = c .parameter-word .ensures ∙ sym (ap (stepOf _ _ _ _ _ _ _) (sym (c .before .before .before .node-at .ensures)) ∙ step-parameter _ _ _ _ _ _ _ (nodeOf (c .before .before .before .node-at .result)) (c .before .if1 .taken))
 
 output-word-requires : tie.Need-output-word-requires
-output-word-requires c κs = let e = ap (λ (n : Tables.Node). n .tag) (c .before .before .before .before .node-at .ensures) in
-    let t : Tables.nodeAt (c .before .before .before .before .before .before .before .before .args .nodes .now) (c .before .before .before .before .before .before .before .before .args .n) .tag ≡ 1 = sym e ∙ c .if2 .taken in
+output-word-requires c κs =
+    let args = c .before .before .before .before .before .before .before .before .args in
+    let pre = c .before .before .before .before .before .before .before .before .pre in
+    let e = ap (λ (n : Tables.Node). n .tag) (c .before .before .before .before .node-at .ensures) in
+    let t : Tables.nodeAt (args .nodes .now) (args .n) .tag ≡ 1 = sym e ∙ c .if2 .taken in
     let n = ap (λ (n : Tables.Node). n .name) (c .before .before .before .before .node-at .ensures) in
     let x = ap (λ (n : Tables.Node). n .first) (c .before .before .before .before .node-at .ensures) in
     let y = ap (λ (n : Tables.Node). n .second) (c .before .before .before .before .node-at .ensures) in
-    (rw n (output-fits (c .before .before .before .before .before .before .before .before .pre .0) (c .before .before .before .before .before .before .before .before .args .n) (c .before .before .before .before .before .before .before .before .pre .1) t), rw (n, x, y) (output-nodes (c .before .before .before .before .before .before .before .before .pre .0) (c .before .before .before .before .before .before .before .before .args .n) (c .before .before .before .before .before .before .before .before .pre .1) t))
+    (rw n (output-fits (pre .0) (args .n) (pre .1) t), rw (n, x, y) (output-nodes (pre .0) (args .n) (pre .1) t))
 
 returns-2 : tie.Need-returns-2
 returns-2 c = c .output-word .ensures ∙ sym (ap (stepOf _ _ _ _ _ _ _) (sym (c .before .before .before .before .before .node-at .ensures)) ∙ step-output _ _ _ _ _ _ _ (nodeOf (c .before .before .before .before .before .node-at .result)) (c .before .if2 .taken))
@@ -42,41 +41,54 @@ mul-count : tie.Need-mul-count
 mul-count c = search needs
 
 shared-slice-read-count : tie.Need-shared-slice-read-count
-shared-slice-read-count c = let e = ap (λ (n : Tables.Node). n .tag) (c .before .before .before .before .before .before .node-at .ensures) in
-    let t = is-call (c .before .before .before .before .before .before .before .before .before .before .pre .0) (c .before .before .before .before .before .before .before .before .before .before .args .n) (c .before .before .before .before .before .before .before .before .before .before .pre .1) (λ z. c .before .before .before .before .if1 .left (e ∙ z)) (λ z. c .before .before .if2 .left (e ∙ z)) in
-    rw (c .before .place .ensures, ap (λ (n : Tables.Node). n .name) (c .before .before .before .before .before .before .node-at .ensures)) (called-procedure (c .before .before .before .before .before .before .before .before .before .before .pre .0) (c .before .before .before .before .before .before .before .before .before .before .args .n) (c .before .before .before .before .before .before .before .before .before .before .pre .1) t)
+shared-slice-read-count c =
+    let args = c .before .before .before .before .before .before .before .before .before .before .args in
+    let pre = c .before .before .before .before .before .before .before .before .before .before .pre in
+    let e = ap (λ (n : Tables.Node). n .tag) (c .before .before .before .before .before .before .node-at .ensures) in
+    let t = is-call (pre .0) (args .n) (pre .1) (λ z. c .before .before .before .before .if1 .left (e ∙ z)) (λ z. c .before .before .if2 .left (e ∙ z)) in
+    rw (c .before .place .ensures, ap (λ (n : Tables.Node). n .name) (c .before .before .before .before .before .before .node-at .ensures)) (called-procedure (pre .0) (args .n) (pre .1) t)
 
 mul-place : tie.Need-mul-place
 mul-place c = search needs
 
 element-copy-out-place : tie.Need-element-copy-out-place
-element-copy-out-place c = let e = ap (λ (n : Tables.Node). n .tag) (c .before .before .before .before .before .before .node-at .ensures) in
-    let t = is-call (c .before .before .before .before .before .before .before .before .before .before .pre .0) (c .before .before .before .before .before .before .before .before .before .before .args .n) (c .before .before .before .before .before .before .before .before .before .before .pre .1) (λ z. c .before .before .before .before .if1 .left (e ∙ z)) (λ z. c .before .before .if2 .left (e ∙ z)) in
-    let h : c .before .place .result < length (c .before .before .before .before .before .before .before .before .before .before .args .counts .now) = rw (c .before .place .ensures, ap (λ (n : Tables.Node). n .name) (c .before .before .before .before .before .before .node-at .ensures)) (called-procedure (c .before .before .before .before .before .before .before .before .before .before .pre .0) (c .before .before .before .before .before .before .before .before .before .before .args .n) (c .before .before .before .before .before .before .before .before .before .before .pre .1) t) in
-    omega (arith, c .before .before .before .before .before .before .before .before .before .before .pre .0 .procedures)
+element-copy-out-place c =
+    let args = c .before .before .before .before .before .before .before .before .before .before .args in
+    let pre = c .before .before .before .before .before .before .before .before .before .before .pre in
+    let e = ap (λ (n : Tables.Node). n .tag) (c .before .before .before .before .before .before .node-at .ensures) in
+    let t = is-call (pre .0) (args .n) (pre .1) (λ z. c .before .before .before .before .if1 .left (e ∙ z)) (λ z. c .before .before .if2 .left (e ∙ z)) in
+    let h : c .before .place .result < length (args .counts .now) = rw (c .before .place .ensures, ap (λ (n : Tables.Node). n .name) (c .before .before .before .before .before .before .node-at .ensures)) (called-procedure (pre .0) (args .n) (pre .1) t) in
+    omega (arith, pre .0 .procedures)
 
 place-requires-2 : tie.Need-place-requires-2
 place-requires-2 c κs = search needs
 
 called-word-requires : tie.Need-called-word-requires
-called-word-requires c κs = let e = ap (λ (n : Tables.Node). n .tag) (c .before .before .before .before .before .before .before .before .node-at .ensures) in
-    let t = is-call (c .before .before .before .before .before .before .before .before .before .before .before .before .pre .0) (c .before .before .before .before .before .before .before .before .before .before .before .before .args .n) (c .before .before .before .before .before .before .before .before .before .before .before .before .pre .1) (λ z. c .before .before .before .before .before .before .if1 .left (e ∙ z)) (λ z. c .before .before .before .before .if2 .left (e ∙ z)) in
-    let h : c .before .before .before .place .result < length (c .before .before .before .before .before .before .before .before .before .before .before .before .args .counts .now) = rw (c .before .before .before .place .ensures, ap (λ (n : Tables.Node). n .name) (c .before .before .before .before .before .before .before .before .node-at .ensures)) (called-procedure (c .before .before .before .before .before .before .before .before .before .before .before .before .pre .0) (c .before .before .before .before .before .before .before .before .before .before .before .before .args .n) (c .before .before .before .before .before .before .before .before .before .before .before .before .pre .1) t) in
-    rw (c .place2 .ensures) (c .before .before .before .before .before .before .before .before .before .before .before .before .pre .0 .procedure (c .before .before .before .place .result) h)
+called-word-requires c κs =
+    let args = c .before .before .before .before .before .before .before .before .before .before .before .before .args in
+    let pre = c .before .before .before .before .before .before .before .before .before .before .before .before .pre in
+    let e = ap (λ (n : Tables.Node). n .tag) (c .before .before .before .before .before .before .before .before .node-at .ensures) in
+    let t = is-call (pre .0) (args .n) (pre .1) (λ z. c .before .before .before .before .before .before .if1 .left (e ∙ z)) (λ z. c .before .before .before .before .if2 .left (e ∙ z)) in
+    let h : c .before .before .before .place .result < length (args .counts .now) = rw (c .before .before .before .place .ensures, ap (λ (n : Tables.Node). n .name) (c .before .before .before .before .before .before .before .before .node-at .ensures)) (called-procedure (pre .0) (args .n) (pre .1) t) in
+    rw (c .place2 .ensures) (pre .0 .procedure (c .before .before .before .place .result) h)
 
 call-word-requires : tie.Need-call-word-requires
-call-word-requires c κs = let e = ap (λ (n : Tables.Node). n .tag) (c .before .before .before .before .before .before .before .before .before .node-at .ensures) in
-    let t = is-call (c .before .before .before .before .before .before .before .before .before .before .before .before .before .pre .0) (c .before .before .before .before .before .before .before .before .before .before .before .before .before .args .n) (c .before .before .before .before .before .before .before .before .before .before .before .before .before .pre .1) (λ z. c .before .before .before .before .before .before .before .if1 .left (e ∙ z)) (λ z. c .before .before .before .before .before .if2 .left (e ∙ z)) in
+call-word-requires c κs =
+    let args = c .before .before .before .before .before .before .before .before .before .before .before .before .before .args in
+    let pre = c .before .before .before .before .before .before .before .before .before .before .before .before .before .pre in
+    let e = ap (λ (n : Tables.Node). n .tag) (c .before .before .before .before .before .before .before .before .before .node-at .ensures) in
+    let t = is-call (pre .0) (args .n) (pre .1) (λ z. c .before .before .before .before .before .before .before .if1 .left (e ∙ z)) (λ z. c .before .before .before .before .before .if2 .left (e ∙ z)) in
     let n = ap (λ (n : Tables.Node). n .name) (c .before .before .before .before .before .before .before .before .before .node-at .ensures) in
     let x = ap (λ (n : Tables.Node). n .first) (c .before .before .before .before .before .before .before .before .before .node-at .ensures) in
     let y = ap (λ (n : Tables.Node). n .second) (c .before .before .before .before .before .before .before .before .before .node-at .ensures) in
-    let h = call-nodes (c .before .before .before .before .before .before .before .before .before .before .before .before .before .pre .0) (c .before .before .before .before .before .before .before .before .before .before .before .before .before .args .n) (c .before .before .before .before .before .before .before .before .before .before .before .before .before .pre .1) t in
-    (c .before .before .before .before .before .before .before .before .before .before .before .before .before .pre .0 .layout, rw (c .before .before .before .before .place .ensures, n, x) (h .0), rw (c .before .before .before .before .place .ensures, n, y) (h .1))
+    let h = call-nodes (pre .0) (args .n) (pre .1) t in
+    (pre .0 .layout, rw (c .before .before .before .before .place .ensures, n, x) (h .0), rw (c .before .before .before .before .place .ensures, n, y) (h .1))
 
 returns-3 : tie.Need-returns-3
 returns-3 c =
+    let pre = c .before .before .before .before .before .before .before .before .before .before .before .before .before .before .pre in
     let e = ap (λ (n : Tables.Node). n .tag) (c .before .before .before .before .before .before .before .before .before .before .node-at .ensures) in
-    let t = is-call (c .before .before .before .before .before .before .before .before .before .before .before .before .before .before .pre .0) (c .before .before .before .before .before .before .before .before .before .before .before .before .before .before .args .n) (c .before .before .before .before .before .before .before .before .before .before .before .before .before .before .pre .1) (λ z. c .before .before .before .before .before .before .before .before .if1 .left (e ∙ z)) (λ z. c .before .before .before .before .before .before .if2 .left (e ∙ z)) in
+    let t = is-call (pre .0) (c .before .before .before .before .before .before .before .before .before .before .before .before .before .before .args .n) (pre .1) (λ z. c .before .before .before .before .before .before .before .before .if1 .left (e ∙ z)) (λ z. c .before .before .before .before .before .before .if2 .left (e ∙ z)) in
     c .call-word .ensures
     ∙ sym (ap (stepOf _ _ _ _ _ _ _) (sym (c .before .before .before .before .before .before .before .before .before .before .node-at .ensures))
     ∙ step-call _ _ _ _ _ _ _ (nodeOf (c .before .before .before .before .before .before .before .before .before .before .node-at .result)) (c .before .before .before .before .before .place .result) (c .before .before .place2 .result) (c .before .called-word .result) (e ∙ t) (c .before .before .before .before .before .place .ensures) (c .before .before .place2 .ensures) (c .before .called-word .ensures))

@@ -1,14 +1,12 @@
 -- A state's place fits into the word, and a symbol's states stand in the table; a node's word is read only where it is used.
-use mathlib.Core.Path.{_≡_, refl, ap, sym, _∙_}
-use mathlib.Core.List.{List}
-use Prim.Native.Nat.{ℕ, _+_, _*_, _-_, _/_, _^_, _≤_, _<_}
+use mathlib.Core.Path.{_≡_, _∙_}
+use Prim.Native.Nat.{_-_, _<_}
 use native.Mathlib.Omega.{arith}
-use lib.ListN.{length, getD}
+use lib.ListN.{getD}
 use lib.Pow.{pow-pos}
 use borrow.Author.Needs.{needs}
 use borrow.Author.Tests.{eq-eqb, ne-eqb}
 use Rattle.lanes.proofs.Room.{put-fits, ones-less, small-prod, square-small}
-use Rattle.kind_words.specs.Lanes.{Sized, StatesAt}
 use Rattle.node_words.proofs.output_word.Statement.{statement}
 use Rattle.node_words.proofs.output_word.Tie as tie
 
@@ -19,14 +17,20 @@ wide-requires : tie.Need-wide-requires
 wide-requires c κs = search needs
 
 mul-up : tie.Need-mul-up
-mul-up c = let z : c .before .wide .result ≡ getD (c .before .before .before .before .before .before .args .table .now) 0 0 = c .before .wide .ensures in
-    let h : c .before .wide .result < c .before .before .before .before .before .before .args .layout .states = rw z (c .before .before .before .before .before .before .pre .0 .entry 0) in
-    omega (arith, put-fits (c .before .before .before .before .before .before .args .layout .states) (c .before .before .before .before .before .before .args .layout .width) 0 (c .before .wide .result) (c .before .before .before .before .before .before .pre .0 .layout .laid .sized) (pow-pos (c .before .before .before .before .before .before .args .layout .width)) h)
+mul-up c =
+    let args = c .before .before .before .before .before .before .args in
+    let pre = c .before .before .before .before .before .before .pre in
+    let z : c .before .wide .result ≡ getD (args .table .now) 0 0 = c .before .wide .ensures in
+    let h : c .before .wide .result < args .layout .states = rw z (pre .0 .entry 0) in
+    omega (arith, put-fits (args .layout .states) (args .layout .width) 0 (c .before .wide .result) (pre .0 .layout .laid .sized) (pow-pos (args .layout .width)) h)
 
 up-requires : tie.Need-up-requires
-up-requires c κs = let z : c .before .wide .result ≡ getD (c .before .before .before .before .before .before .args .table .now) 0 0 = c .before .wide .ensures in
-    let h : c .before .wide .result < c .before .before .before .before .before .before .args .layout .states = rw z (c .before .before .before .before .before .before .pre .0 .entry 0) in
-    put-fits (c .before .before .before .before .before .before .args .layout .states) (c .before .before .before .before .before .before .args .layout .width) (c .before .before .before .before .before .before .args .layout .ones) (c .before .wide .result) (c .before .before .before .before .before .before .pre .0 .layout .laid .sized) (ones-less (c .before .before .before .before .before .before .args .layout .width) (c .before .before .before .before .before .before .args .layout .ones) (c .before .before .before .before .before .before .pre .0 .layout .laid .lane)) h
+up-requires c κs =
+    let args = c .before .before .before .before .before .before .args in
+    let pre = c .before .before .before .before .before .before .pre in
+    let z : c .before .wide .result ≡ getD (args .table .now) 0 0 = c .before .wide .ensures in
+    let h : c .before .wide .result < args .layout .states = rw z (pre .0 .entry 0) in
+    put-fits (args .layout .states) (args .layout .width) (args .layout .ones) (c .before .wide .result) (pre .0 .layout .laid .sized) (ones-less (args .layout .width) (args .layout .ones) (pre .0 .layout .laid .lane)) h
 
 returns : tie.Need-returns
 returns c = rw (eq-eqb (c .before .before .before .before .before .before .before .args .symbol .0) 0 (c .before .before .before .before .if1 .taken)) (c .up .ensures ∙ rw (c .before .before .wide .ensures))
@@ -38,13 +42,22 @@ sub-start : tie.Need-sub-start
 sub-start c = search needs
 
 mul-start : tie.Need-mul-start
-mul-start c = omega (arith, small-prod (c .place .result - 1) (c .before .before .before .before .args .layout .states) (omega (arith, c .place .ensures, c .before .before .before .before .pre .0 .small)) (omega (arith, square-small (c .before .before .before .before .args .layout .states) (c .before .before .before .before .pre .0 .layout .few))))
+mul-start c =
+    let args = c .before .before .before .before .args in
+    let pre = c .before .before .before .before .pre in
+    omega (arith, small-prod (c .place .result - 1) (args .layout .states) (omega (arith, c .place .ensures, pre .0 .small)) (omega (arith, square-small (args .layout .states) (pre .0 .layout .few))))
 
 mul-start-2 : tie.Need-mul-start-2
-mul-start-2 c = omega (arith, small-prod (c .place .result - 1) (c .before .before .before .before .args .layout .states) (omega (arith, c .place .ensures, c .before .before .before .before .pre .0 .small)) (omega (arith, square-small (c .before .before .before .before .args .layout .states) (c .before .before .before .before .pre .0 .layout .few))))
+mul-start-2 c =
+    let args = c .before .before .before .before .args in
+    let pre = c .before .before .before .before .pre in
+    omega (arith, small-prod (c .place .result - 1) (args .layout .states) (omega (arith, c .place .ensures, pre .0 .small)) (omega (arith, square-small (args .layout .states) (pre .0 .layout .few))))
 
 add-start : tie.Need-add-start
-add-start c = omega (arith, small-prod (c .place .result - 1) (c .before .before .before .before .args .layout .states) (omega (arith, c .place .ensures, c .before .before .before .before .pre .0 .small)) (omega (arith, square-small (c .before .before .before .before .args .layout .states) (c .before .before .before .before .pre .0 .layout .few))))
+add-start c =
+    let args = c .before .before .before .before .args in
+    let pre = c .before .before .before .before .pre in
+    omega (arith, small-prod (c .place .result - 1) (args .layout .states) (omega (arith, c .place .ensures, pre .0 .small)) (omega (arith, square-small (args .layout .states) (pre .0 .layout .few))))
 
 place-requires-2 : tie.Need-place-requires-2
 place-requires-2 c κs = search needs
@@ -67,8 +80,10 @@ element-copy-out-symbol-word-2 c = let h = c .before .before .before .before .be
     omega (arith, c .place3 .ensures)
 
 symbol-word-requires : tie.Need-symbol-word-requires
-symbol-word-requires c κs = let e : c .before .before .before .before .place .result ≡ c .before .before .before .before .before .before .before .before .args .symbol .0 = c .before .before .before .before .place .ensures in
-    (c .before .before .before .before .before .before .before .before .pre .0 .layout .laid .sized, record { inside = rw e (c .before .before .before .before .before .before .before .before .pre .0 .room (omega arith)); states = λ k h. c .before .before .before .before .before .before .before .before .pre .0 .entry k }, c .before .before .before .before .before .before .before .before .pre .0 .layout .laid .lane)
+symbol-word-requires c κs =
+    let pre = c .before .before .before .before .before .before .before .before .pre in
+    let e : c .before .before .before .before .place .result ≡ c .before .before .before .before .before .before .before .before .args .symbol .0 = c .before .before .before .before .place .ensures in
+    (pre .0 .layout .laid .sized, record { inside = rw e (pre .0 .room (omega arith)); states = λ k h. pre .0 .entry k }, pre .0 .layout .laid .lane)
 
 returns-2 : tie.Need-returns-2
 returns-2 c = rw (ne-eqb (c .before .before .before .before .before .before .before .before .before .args .symbol .0) 0 (c .before .before .before .before .before .before .if1 .left)) (c .symbol-word .ensures ∙ rw (c .before .before .before .before .before .place .ensures, c .before .before .before .before .place2 .ensures, c .before .before .place3 .ensures))

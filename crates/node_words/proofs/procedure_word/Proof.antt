@@ -1,30 +1,33 @@
 -- A procedure has at most sixteen assignments, so that its lanes fit; what it calls gives the rest.
-use mathlib.Core.Path.{_≡_, refl, ap, sym, _∙_}
-use mathlib.Core.List.{List}
-use Prim.Native.Nat.{ℕ, _+_, _*_, _-_, _/_, _^_, _≤_, _<_}
+use mathlib.Core.Path.{_≡_, _∙_}
+use Prim.Native.Nat.{_-_, _^_}
 use native.Mathlib.Omega.{arith}
-use lib.ListN.{length, getD}
-use lib.Pow.{pow-pos}
 use borrow.Author.Needs.{needs}
-use borrow.Author.Tests.{eq-eqb, ne-eqb}
 use Rattle.lanes.proofs.Room.{square-small, power-small, pow-some}
-use Rattle.kind_words.specs.Fits.{ProcedureFits, LayoutFits}
 use Rattle.node_words.proofs.procedure_word.Statement.{statement}
 use Rattle.node_words.proofs.procedure_word.Tie as tie
 
 assignments-requires : tie.Need-assignments-requires
-assignments-requires c κs = (c .pre .parameters, omega (arith, square-small (c .args .layout .states) (c .pre .layout .few)))
+assignments-requires c κs =
+    let pre = c .pre in
+    (pre .parameters, omega (arith, square-small (c .args .layout .states) (pre .layout .few)))
 
 lane-of-ones-requires : tie.Need-lane-of-ones-requires
-lane-of-ones-requires c κs = let e : c .assignments .result ≡ c .before .args .layout .states ^ c .before .args .count = c .assignments .ensures in
-    omega (arith, power-small (c .before .args .layout .states) (c .before .args .count) (c .before .pre .layout .some) (c .before .pre .layout .few) (c .before .pre .parameters))
+lane-of-ones-requires c κs =
+    let args = c .before .args in
+    let pre = c .before .pre in
+    let e : c .assignments .result ≡ args .layout .states ^ args .count = c .assignments .ensures in
+    omega (arith, power-small (args .layout .states) (args .count) (pre .layout .some) (pre .layout .few) (pre .parameters))
 
 facts-from-requires : tie.Need-facts-from-requires
 facts-from-requires c κs = search needs
 
 widen-requires : tie.Need-widen-requires
-widen-requires c κs = let e : c .before .before .assignments .result ≡ c .before .before .before .args .layout .states ^ c .before .before .before .args .count = c .before .before .assignments .ensures in
-    (c .before .before .before .pre .layout .laid .sized, rw e (pow-some (c .before .before .before .args .layout .states) (c .before .before .before .args .count) (c .before .before .before .pre .layout .some)), rw e (c .before .before .before .pre .narrow), c .before .lane-of-ones .ensures)
+widen-requires c κs =
+    let args = c .before .before .before .args in
+    let pre = c .before .before .before .pre in
+    let e : c .before .before .assignments .result ≡ args .layout .states ^ args .count = c .before .before .assignments .ensures in
+    (pre .layout .laid .sized, rw e (pow-some (args .layout .states) (args .count) (pre .layout .some)), rw e (pre .narrow), c .before .lane-of-ones .ensures)
 
 returns : tie.Need-returns
 returns c = c .widen .ensures ∙ rw (c .before .before .before .assignments .ensures, c .before .facts-from .ensures)

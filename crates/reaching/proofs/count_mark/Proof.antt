@@ -1,5 +1,4 @@
 -- Both sides of the test.
-use mathlib.Core.Path.{_≡_}
 use borrow.Author.Tests.{eq-eqb, ne-eqb}
 use Rattle.reaching.proofs.count_mark.Statement.{statement}
 use Rattle.reaching.proofs.count_mark.Tie as tie

@@ -1,9 +1,8 @@
 -- Invariant: the marked nodes below n stand on the list. Measure: the nodes left.
-use mathlib.Core.Path.{_≡_, refl, ap, subst, sym, _∙_}
+use mathlib.Core.Path.{_≡_, subst}
 use Prim.Native.Nat.{ℕ, _+_, _-_, _≤_, _<_}
 use native.Mathlib.Omega.{arith}
 use lib.ListN.{getD}
-use Rattle.reaching.specs.Marks.{counted}
 use Rattle.reaching.specs.Listing.{Listing, listing-none, listing-more, counted-small}
 use Rattle.reaching.proofs.list_marked.Statement.{statement}
 use Rattle.reaching.proofs.list_marked.Tie as tie
@@ -21,13 +20,19 @@ entry-of-requires : tie.Need-entry-of-requires Inv-loop μ-loop
 entry-of-requires c κs = omega (arith, c .before .before .pre .0)
 
 add-reached : tie.Need-add-reached Inv-loop μ-loop
-add-reached c = omega (arith, c .before .before .before .pre .0, c .before .before .before .pre .1, c .before .before .loop .inv .1 .few)
+add-reached c =
+    let pre = c .before .before .before .pre in
+    omega (arith, pre .0, pre .1, c .before .before .loop .inv .1 .few)
 
 mul-reached : tie.Need-mul-reached Inv-loop μ-loop
-mul-reached c = omega (arith, c .before .before .before .pre .0, c .before .before .before .pre .1, c .before .before .loop .inv .1 .few)
+mul-reached c =
+    let pre = c .before .before .before .pre in
+    omega (arith, pre .0, pre .1, c .before .before .loop .inv .1 .few)
 
 element-write-reached : tie.Need-element-write-reached Inv-loop μ-loop
-element-write-reached c = omega (arith, c .before .before .before .pre .0, c .before .before .before .pre .1, c .before .before .loop .inv .1 .few)
+element-write-reached c =
+    let pre = c .before .before .before .pre in
+    omega (arith, pre .0, pre .1, c .before .before .loop .inv .1 .few)
 
 mul-count-mark : tie.Need-mul-count-mark Inv-loop μ-loop
 mul-count-mark c = omega (arith, c .before .before .before .pre .0)
@@ -39,7 +44,9 @@ count-mark-requires : tie.Need-count-mark-requires Inv-loop μ-loop
 count-mark-requires c κs = tt
 
 add-listed : tie.Need-add-listed Inv-loop μ-loop
-add-listed c = omega (arith, c .before .before .before .before .before .pre .0, c .before .before .before .before .loop .inv .1 .few, c .count-mark .ensures, counted-small (getD (c .before .before .before .before .before .args .marks .now) (c .before .before .before .before .loop .n) 0))
+add-listed c =
+    let loop = c .before .before .before .before .loop in
+    omega (arith, c .before .before .before .before .before .pre .0, loop .inv .1 .few, c .count-mark .ensures, counted-small (getD (c .before .before .before .before .before .args .marks .now) (loop .n) 0))
 
 add-n : tie.Need-add-n Inv-loop μ-loop
 add-n c = omega arith
@@ -48,12 +55,19 @@ loop-less : tie.Need-loop-less Inv-loop μ-loop
 loop-less c = omega arith
 
 loop-again : tie.Need-loop-again Inv-loop μ-loop
-loop-again c = let room : c .before .before .before .before .before .args .start + c .before .before .before .before .loop .listed < 4096 = omega (arith, c .before .before .before .before .before .pre .0, c .before .before .before .before .before .pre .1, c .before .before .before .before .loop .inv .1 .few) in
-    (omega arith, listing-more _ _ (c .before .before .before .before .loop .reached) (c .before .before .before .before .before .args .start) (c .before .before .before .before .loop .n) (c .before .before .before .before .loop .listed) (c .before .before .before .before .loop .inv .1) room _ _ (c .before .before .entry-of .ensures) (c .count-mark .ensures))
+loop-again c =
+    let args = c .before .before .before .before .before .args in
+    let pre = c .before .before .before .before .before .pre in
+    let loop = c .before .before .before .before .loop in
+    let room : args .start + loop .listed < 4096 = omega (arith, pre .0, pre .1, loop .inv .1 .few) in
+    (omega arith, listing-more _ _ (loop .reached) (args .start) (loop .n) (loop .listed) (loop .inv .1) room _ _ (c .before .before .entry-of .ensures) (c .count-mark .ensures))
 
 returns : tie.Need-returns Inv-loop μ-loop
-returns c = let e : c .before .loop .n ≡ c .before .before .args .count = omega arith in
-    subst (λ (x : ℕ). Listing (c .before .before .args .marks .now) (c .before .before .args .reached .now) (c .before .loop .reached) (c .before .before .args .start) x (c .before .loop .listed)) e (c .before .loop .inv .1)
+returns c =
+    let args = c .before .before .args in
+    let loop = c .before .loop in
+    let e : loop .n ≡ args .count = omega arith in
+    subst (λ (x : ℕ). Listing (args .marks .now) (args .reached .now) (loop .reached) (args .start) x (loop .listed)) e (loop .inv .1)
 
 pub list-marked-spec : {M : Type 1} → statement M
 list-marked-spec =

@@ -1,6 +1,5 @@
 -- Invariant: what the marked nodes from n on refer to is marked. Measure: n.
-use mathlib.Core.Path.{_≡_, refl, ap, subst, sym, _∙_}
-use mathlib.Core.List.{List}
+use mathlib.Core.Path.{_≡_, subst}
 use Prim.Native.Nat.{ℕ, suc, _-_, _≤_, _<_}
 use native.Mathlib.Omega.{arith}
 use Rattle.model.specs.Tables.{nodeCount}
@@ -27,13 +26,19 @@ loop-less : tie.Need-loop-less Inv-loop μ-loop
 loop-less c = omega arith
 
 loop-again : tie.Need-loop-again Inv-loop μ-loop
-loop-again c = let h : c .before .before .before .loop .n - 1 < nodeCount (c .before .before .before .before .before .before .args .nodes .now) = omega arith in
-    let e : c .before .before .before .loop .n ≡ suc (c .before .before .before .loop .n - 1) = omega arith in
-    (omega arith, closed-more (c .before .before .before .before .before .before .pre .0) (c .before .before .before .loop .n - 1) h _ (c .before .before .before .loop .marks) _ (subst (λ (x : ℕ). Closed (c .before .before .before .before .before .before .args .counts .now) (c .before .before .before .before .before .before .args .nodes .now) x (c .before .before .before .before .before .before .args .marks .now) (c .before .before .before .loop .marks)) e (c .before .before .before .loop .inv .1)) (c .mark-referred .ensures))
+loop-again c =
+    let args = c .before .before .before .before .before .before .args in
+    let loop = c .before .before .before .loop in
+    let h : loop .n - 1 < nodeCount (args .nodes .now) = omega arith in
+    let e : loop .n ≡ suc (loop .n - 1) = omega arith in
+    (omega arith, closed-more (c .before .before .before .before .before .before .pre .0) (loop .n - 1) h _ (loop .marks) _ (subst (λ (x : ℕ). Closed (args .counts .now) (args .nodes .now) x (args .marks .now) (loop .marks)) e (loop .inv .1)) (c .mark-referred .ensures))
 
 returns : tie.Need-returns Inv-loop μ-loop
-returns c = let e : c .before .loop .n ≡ 0 = omega arith in
-    subst (λ (x : ℕ). Closed (c .before .before .before .before .args .counts .now) (c .before .before .before .before .args .nodes .now) x (c .before .before .before .before .args .marks .now) (c .before .loop .marks)) e (c .before .loop .inv .1)
+returns c =
+    let args = c .before .before .before .before .args in
+    let loop = c .before .loop in
+    let e : loop .n ≡ 0 = omega arith in
+    subst (λ (x : ℕ). Closed (args .counts .now) (args .nodes .now) x (args .marks .now) (loop .marks)) e (loop .inv .1)
 
 pub mark-all-referred-spec : {M : Type 1} → statement M
 mark-all-referred-spec =

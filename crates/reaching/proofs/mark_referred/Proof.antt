@@ -1,6 +1,6 @@
 -- What a good node refers to is below it, and so has a mark; a node that is not marked changes nothing.
-use mathlib.Core.Path.{_≡_, refl, ap, sym, _∙_}
-use Prim.Native.Nat.{ℕ, _<_, _≤_}
+use mathlib.Core.Path.{_≡_, ap, sym, _∙_}
+use Prim.Native.Nat.{_≤_}
 use native.Mathlib.Omega.{arith}
 use borrow.Author.Needs.{needs}
 use borrow.Author.Tests.{leb-true}
@@ -20,26 +20,36 @@ node-at-requires : tie.Need-node-at-requires
 node-at-requires c κs = search needs
 
 references-of-requires : tie.Need-references-of-requires
-references-of-requires c κs = let t = ap (λ (n : Tables.Node). n .tag) (c .node-at .ensures) in
-    λ e. rw (ap (λ (n : Tables.Node). n .name) (c .node-at .ensures)) (called-known (c .before .before .before .before .before .pre .0) (c .before .before .before .before .before .args .n) (c .before .before .before .before .before .pre .1) (sym t ∙ e))
+references-of-requires c κs =
+    let pre = c .before .before .before .before .before .pre in
+    let t = ap (λ (n : Tables.Node). n .tag) (c .node-at .ensures) in
+    λ e. rw (ap (λ (n : Tables.Node). n .name) (c .node-at .ensures)) (called-known (pre .0) (c .before .before .before .before .before .args .n) (pre .1) (sym t ∙ e))
 
 mark-requires : tie.Need-mark-requires
-mark-requires c κs = let k : c .before .references-of .result ≡ references (c .before .before .before .before .before .before .before .args .counts .now) (Tables.nodeAt (c .before .before .before .before .before .before .before .args .nodes .now) (c .before .before .before .before .before .before .before .args .n)) = c .before .references-of .ensures ∙ ap (references (c .before .before .before .before .before .before .before .args .counts .now)) (c .before .before .node-at .ensures) in
+mark-requires c κs =
+    let args = c .before .before .before .before .before .before .before .args in
+    let pre = c .before .before .before .before .before .before .before .pre in
+    let k : c .before .references-of .result ≡ references (args .counts .now) (Tables.nodeAt (args .nodes .now) (args .n)) = c .before .references-of .ensures ∙ ap (references (args .counts .now)) (c .before .before .node-at .ensures) in
     λ e.
-    let l : 1 ≤ references (c .before .before .before .before .before .before .before .args .counts .now) (Tables.nodeAt (c .before .before .before .before .before .before .before .args .nodes .now) (c .before .before .before .before .before .before .before .args .n)) = rw k at (leb-true 1 (c .before .references-of .result) e) in
+    let l : 1 ≤ references (args .counts .now) (Tables.nodeAt (args .nodes .now) (args .n)) = rw k at (leb-true 1 (c .before .references-of .result) e) in
     let f = ap (λ (n : Tables.Node). n .first) (c .before .before .node-at .ensures) in
-    omega (arith, first-smaller (c .before .before .before .before .before .before .before .pre .0) (c .before .before .before .before .before .before .before .args .n) (c .before .before .before .before .before .before .before .pre .1) l, c .before .before .before .before .before .before .before .pre .0 .few)
+    omega (arith, first-smaller (pre .0) (args .n) (pre .1) l, pre .0 .few)
 
 mark-requires-2 : tie.Need-mark-requires-2
-mark-requires-2 c κs = let k : c .before .before .before .references-of .result ≡ references (c .before .before .before .before .before .before .before .before .before .args .counts .now) (Tables.nodeAt (c .before .before .before .before .before .before .before .before .before .args .nodes .now) (c .before .before .before .before .before .before .before .before .before .args .n)) = c .before .before .before .references-of .ensures ∙ ap (references (c .before .before .before .before .before .before .before .before .before .args .counts .now)) (c .before .before .before .before .node-at .ensures) in
+mark-requires-2 c κs =
+    let args = c .before .before .before .before .before .before .before .before .before .args in
+    let pre = c .before .before .before .before .before .before .before .before .before .pre in
+    let k : c .before .before .before .references-of .result ≡ references (args .counts .now) (Tables.nodeAt (args .nodes .now) (args .n)) = c .before .before .before .references-of .ensures ∙ ap (references (args .counts .now)) (c .before .before .before .before .node-at .ensures) in
     λ e.
-    let l : 2 ≤ references (c .before .before .before .before .before .before .before .before .before .args .counts .now) (Tables.nodeAt (c .before .before .before .before .before .before .before .before .before .args .nodes .now) (c .before .before .before .before .before .before .before .before .before .args .n)) = rw k at (leb-true 2 (c .before .before .before .references-of .result) e) in
+    let l : 2 ≤ references (args .counts .now) (Tables.nodeAt (args .nodes .now) (args .n)) = rw k at (leb-true 2 (c .before .before .before .references-of .result) e) in
     let f = ap (λ (n : Tables.Node). n .second) (c .before .before .before .before .node-at .ensures) in
-    omega (arith, second-smaller (c .before .before .before .before .before .before .before .before .before .pre .0) (c .before .before .before .before .before .before .before .before .before .args .n) (c .before .before .before .before .before .before .before .before .before .pre .1) l, c .before .before .before .before .before .before .before .before .before .pre .0 .few)
+    omega (arith, second-smaller (pre .0) (args .n) (pre .1) l, pre .0 .few)
 
 returns : tie.Need-returns
-returns c = let k : c .before .before .before .before .references-of .result ≡ references (c .before .before .before .before .before .before .before .before .before .before .args .counts .now) (Tables.nodeAt (c .before .before .before .before .before .before .before .before .before .before .args .nodes .now) (c .before .before .before .before .before .before .before .before .before .before .args .n)) = c .before .before .before .before .references-of .ensures ∙ ap (references (c .before .before .before .before .before .before .before .before .before .before .args .counts .now)) (c .before .before .before .before .before .node-at .ensures) in
-    c .mark2 .ensures ∙ rw (c .before .before .mark .ensures) (referred-taken _ _ _ (c .before .before .before .before .before .before .before .before .before .before .args .n) (c .before .before .before .before .references-of .result) _ _ (c .before .before .before .before .before .before .if1 .taken) k (ap (λ (n : Tables.Node). n .first) (c .before .before .before .before .before .node-at .ensures)) (ap (λ (n : Tables.Node). n .second) (c .before .before .before .before .before .node-at .ensures)))
+returns c =
+    let args = c .before .before .before .before .before .before .before .before .before .before .args in
+    let k : c .before .before .before .before .references-of .result ≡ references (args .counts .now) (Tables.nodeAt (args .nodes .now) (args .n)) = c .before .before .before .before .references-of .ensures ∙ ap (references (args .counts .now)) (c .before .before .before .before .before .node-at .ensures) in
+    c .mark2 .ensures ∙ rw (c .before .before .mark .ensures) (referred-taken _ _ _ (args .n) (c .before .before .before .before .references-of .result) _ _ (c .before .before .before .before .before .before .if1 .taken) k (ap (λ (n : Tables.Node). n .first) (c .before .before .before .before .before .node-at .ensures)) (ap (λ (n : Tables.Node). n .second) (c .before .before .before .before .before .node-at .ensures)))
 
 returns-2 : tie.Need-returns-2
 returns-2 c = referred-kept _ _ _ (c .before .before .before .before .args .n) (c .if1 .left)

@@ -1,5 +1,5 @@
 -- What is read of the rule is what is marked.
-use mathlib.Core.Path.{_≡_, refl, ap, sym, _∙_}
+use mathlib.Core.Path.{ap, _∙_}
 use borrow.Author.Needs.{needs}
 use Rattle.model.specs.Tables
 use Rattle.reaching.proofs.mark_rule.Statement.{statement}

@@ -1,7 +1,6 @@
 -- Invariant: the nodes of the first r rules are marked, where they are rules for the symbol. Measure: the rules left.
-use mathlib.Core.Path.{_≡_, refl, ap, subst, sym, _∙_}
-use mathlib.Core.List.{List}
-use Prim.Native.Nat.{ℕ, _/_, _-_, _≤_, _<_}
+use mathlib.Core.Path.{_≡_, refl, subst}
+use Prim.Native.Nat.{ℕ, _/_, _-_, _≤_}
 use native.Mathlib.Omega.{arith}
 use lib.ListN.{length}
 use Rattle.reaching.specs.Marks.{RulesMarked, no-rules-marked, rule-marked}
@@ -27,11 +26,16 @@ loop-less : tie.Need-loop-less Inv-loop μ-loop
 loop-less c = omega arith
 
 loop-again : tie.Need-loop-again Inv-loop μ-loop
-loop-again c = (c .before .before .before .loop .inv .0, omega arith, rule-marked _ _ (c .before .before .before .loop .r) (c .before .before .before .loop .marks) _ (c .before .before .before .loop .inv .2) (c .before .before .before .before .before .pre .0 (c .before .before .before .loop .r) (omega arith)) (c .mark-rule .ensures))
+loop-again c =
+    let loop = c .before .before .before .loop in
+    (loop .inv .0, omega arith, rule-marked _ _ (loop .r) (loop .marks) _ (loop .inv .2) (c .before .before .before .before .before .pre .0 (loop .r) (omega arith)) (c .mark-rule .ensures))
 
 returns : tie.Need-returns Inv-loop μ-loop
-returns c = let e : c .before .loop .r ≡ length (c .before .before .before .args .rules .now) / 3 = omega arith in
-    subst (λ (x : ℕ). RulesMarked (c .before .before .before .args .rules .now) (c .before .before .before .args .symbol .0) x (c .before .loop .marks)) e (c .before .loop .inv .2)
+returns c =
+    let args = c .before .before .before .args in
+    let loop = c .before .loop in
+    let e : loop .r ≡ length (args .rules .now) / 3 = omega arith in
+    subst (λ (x : ℕ). RulesMarked (args .rules .now) (args .symbol .0) x (loop .marks)) e (loop .inv .2)
 
 pub mark-rules-spec : {M : Type 1} → statement M
 mark-rules-spec =

@@ -1,7 +1,6 @@
 -- Invariant: the lists of the symbols below s. Measure: the symbols left.
-use mathlib.Core.Path.{_≡_, refl, ap, subst, sym, _∙_}
-use mathlib.Core.List.{List}
-use Prim.Native.Nat.{ℕ, _+_, _*_, _-_, _≤_, _<_}
+use mathlib.Core.Path.{_≡_, subst}
+use Prim.Native.Nat.{ℕ, _-_, _≤_}
 use native.Mathlib.Omega.{arith}
 use Rattle.reaching.specs.Listing.{ListedTo, listed-none, listed-more, listed-all}
 use Rattle.reaching.proofs.reached_nodes.Statement.{statement}
@@ -14,10 +13,14 @@ abbrev μ-loop : tie.MeasureT-loop
 μ-loop counts nodes rules reached₀ lengths₀ s₀ reached lengths s = 16 - s
 
 loop-holds : tie.Need-loop-holds Inv-loop μ-loop
-loop-holds c = (omega arith, listed-none _ _ _ _ _ (c .before .before .before .pre .2) (c .before .before .before .pre .3))
+loop-holds c =
+    let pre = c .before .before .before .pre in
+    (omega arith, listed-none _ _ _ _ _ (pre .2) (pre .3))
 
 list-symbol-requires : tie.Need-list-symbol-requires Inv-loop μ-loop
-list-symbol-requires c κs = (c .before .before .before .before .before .before .pre .0, c .before .before .before .before .before .before .pre .1, omega arith, c .before .before .loop .inv .1 .long)
+list-symbol-requires c κs =
+    let pre = c .before .before .before .before .before .before .pre in
+    (pre .0, pre .1, omega arith, c .before .before .loop .inv .1 .long)
 
 entry-of-requires : tie.Need-entry-of-requires Inv-loop μ-loop
 entry-of-requires c κs = c .list-symbol .ensures .few
@@ -38,11 +41,16 @@ loop-less : tie.Need-loop-less Inv-loop μ-loop
 loop-less c = omega arith
 
 loop-again : tie.Need-loop-again Inv-loop μ-loop
-loop-again c = (omega arith, listed-more _ _ _ (c .before .before .before .before .before .loop .s) (c .before .before .before .before .before .loop .reached) (c .before .before .before .before .before .loop .lengths) _ (c .before .before .list-symbol .result) (c .place .result) (c .before .entry-of .result) (c .before .before .before .before .before .loop .inv .1) (c .before .before .list-symbol .ensures) (omega arith) (c .place .ensures) (c .before .entry-of .ensures))
+loop-again c =
+    let loop = c .before .before .before .before .before .loop in
+    (omega arith, listed-more _ _ _ (loop .s) (loop .reached) (loop .lengths) _ (c .before .before .list-symbol .result) (c .place .result) (c .before .entry-of .result) (loop .inv .1) (c .before .before .list-symbol .ensures) (omega arith) (c .place .ensures) (c .before .entry-of .ensures))
 
 returns : tie.Need-returns Inv-loop μ-loop
-returns c = let e : c .before .loop .s ≡ 16 = omega arith in
-    listed-all _ _ _ _ _ (c .before .before .before .before .before .pre .1) (subst (λ (x : ℕ). ListedTo (c .before .before .before .before .before .args .counts .now) (c .before .before .before .before .before .args .nodes .now) (c .before .before .before .before .before .args .rules .now) x (c .before .loop .reached) (c .before .loop .lengths)) e (c .before .loop .inv .1))
+returns c =
+    let args = c .before .before .before .before .before .args in
+    let loop = c .before .loop in
+    let e : loop .s ≡ 16 = omega arith in
+    listed-all _ _ _ _ _ (c .before .before .before .before .before .pre .1) (subst (λ (x : ℕ). ListedTo (args .counts .now) (args .nodes .now) (args .rules .now) x (loop .reached) (loop .lengths)) e (loop .inv .1))
 
 pub reached-nodes-spec : {M : Type 1} → statement M
 reached-nodes-spec =
