@@ -6,3 +6,4 @@ pub mod Established
 pub mod Admitted
 pub mod Facts
 pub mod Documents
+pub mod Rules

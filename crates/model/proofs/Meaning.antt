@@ -9,3 +9,4 @@ pub mod Answers
 pub mod Checks
 pub mod AcceptMarks
 pub mod Demand
+pub mod Runs

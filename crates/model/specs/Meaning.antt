@@ -1,18 +1,21 @@
--- What the answers of judging and checking mean for all trees, as statements. proofs/Meaning proves them.
+-- What the answers of judging, checking and running mean for all trees, as statements. proofs/Meaning proves them.
 use mathlib.Core.Path.{_≡_}
 use mathlib.Core.Bool.{false}
 use mathlib.Core.List.{List, []}
 use mathlib.Core.Logic.{_↔_}
 use Prim.Native.Nat.{ℕ, suc, _*_, _<_, _≤_}
 use lib.Dec.{T}
-use lib.ListN.{length, getD, take}
+use lib.ListN.{length, getD, take, replicate}
 use Rattle.model.specs.Trees.{Tree, height, Over}
-use Rattle.model.specs.Rows.{treeAt}
+use Rattle.model.specs.Documents.{documentTree}
+use Rattle.model.specs.Rows.{rowCount, treeAt}
 use Rattle.model.specs.Tables.{Contract}
 use Rattle.model.specs.Answers.{Answer, tree, pass, refusal}
 use Rattle.model.specs.Kinds.{emptyKind, kindOf, breaks}
 use Rattle.model.specs.Rounds.{kindAutomaton, ListedKind, kindAt, rounds}
 use Rattle.model.specs.Checking.{Checked, standing, checking}
+use Rattle.model.specs.Outputs.{Output}
+use Rattle.model.specs.Running.{mostCalls, running}
 use Rattle.model.specs.Claims.{Takes, Breaks}
 
 -- the trees that a contract speaks of: those over its symbols
@@ -128,3 +131,20 @@ pub record CheckMeans (C : Contract) (lent : Lent) : Type 0 where
   pub treeRows : (j : ℕ) → checkOf C lent .answer ≡ tree j
       → checkOf C lent ≡ standing C (lent .limit) (tree j) (take (suc j) (kindRounds C (lent .limit)))
   pub stopRows : checkOf C lent .answer ≡ refusal 10 (lent .limit) → checkOf C lent ≡ standing C (lent .limit) (refusal 10 (lent .limit)) []
+
+-- "root row and rows used come back"; "The tree is one of the outputs defined above.": what the answer of a run says
+pub record RanOutput (C : Contract) (numbers buffer : List ℕ) (root used : ℕ) : Type 0 where
+  pub output : Output (C .transformation) 0 (documentTree numbers) [] (treeAt (running C numbers buffer .rows) root)
+  pub inside : root < used
+  pub room : used ≤ rowCount buffer
+
+-- why a run refuses: no rule, no row free, too many calls
+pub data RunRefusal (procedures free number place : ℕ) : Type 0 where
+  no-rule : number ≡ 13 → place < procedures → RunRefusal procedures free number place
+  no-row : number ≡ 14 → place ≡ free → RunRefusal procedures free number place
+  too-many-calls : number ≡ 15 → place ≡ mostCalls → RunRefusal procedures free number place
+
+-- "Whichever comes first in that order of work is given, and the buffer is then all 0."
+pub record RunRefused (C : Contract) (numbers buffer : List ℕ) (number place : ℕ) : Type 0 where
+  pub reason : RunRefusal (length (C .transformation .counts)) (rowCount buffer) number place
+  pub cleared : running C numbers buffer .rows ≡ replicate (length buffer) 0

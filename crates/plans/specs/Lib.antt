@@ -1,0 +1,2 @@
+-- What stands in a plan.
+pub mod Plans

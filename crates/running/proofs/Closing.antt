@@ -1,0 +1,62 @@
+-- The end of the work: what the answer and the cleared buffer are of the outcome.
+use mathlib.Core.Path.{_≡_, refl, ap, sym, _∙_}
+use mathlib.Core.List.{List, []}
+use Prim.Native.Nat.{ℕ, _-_}
+use native.Mathlib.Omega.{arith}
+use lib.ListN.{length, take, replicate}
+use Rattle.foundation.specs.Lists.{zeroFilled}
+use Rattle.model.specs.Rows.{rowCount}
+use Rattle.model.specs.Documents.{documentTree}
+use Rattle.model.specs.Running.{Step, run, closing}
+use Rattle.answers.specs.declared.RunningAnswer.{RunningAnswer}
+use Rattle.answers.specs.Numbers.{runningAnswer}
+use Rattle.plans.specs.Plans.{SmallRules}
+use Rattle.model.proofs.Laws.Documents.{document-tree}
+use Rattle.running.specs.declared.Outcome.{Outcome}
+use Rattle.running.specs.declared.Outcome.the-variants.{Made, NoRule, NoRow, TooManyCalls}
+use Rattle.running.specs.Work.{stepOf, numbersKept, outcomeAnswer}
+use Rattle.running.specs.Contracts.{Admitted, Calls, Closes, transformationOf}
+
+module _ (n free : ℕ) where
+  closed-answer : (x : Outcome) (o : List ℕ) → closing n (stepOf free x o) .answer ≡ outcomeAnswer free x
+  unfolding closing
+  closed-answer (Made row tally) o = refl
+  closed-answer (NoRule procedure) o = refl
+  closed-answer NoRow o = refl
+  closed-answer TooManyCalls o = refl
+
+  none-kept : (o : List ℕ) → replicate n 0 ≡ zeroFilled n (take 0 o)
+  unfolding zeroFilled
+  none-kept o = let e : n - 0 ≡ n = omega arith in rw e
+
+  closed-rows : (x : Outcome) (o : List ℕ) → closing n (stepOf free x o) .rows ≡ zeroFilled n (take (numbersKept x) o)
+  unfolding closing
+  closed-rows (Made row tally) o = refl
+  closed-rows (NoRule procedure) o = none-kept o
+  closed-rows NoRow o = none-kept o
+  closed-rows TooManyCalls o = none-kept o
+
+module _ (counts nodes rules numbers buffer : List ℕ) (x : Outcome) (left : List ℕ)
+    (called : Calls counts nodes rules numbers 0 0 0 0 buffer (record { used = 0; calls = 0 }) x left) where
+  abbrev free : ℕ
+  free = rowCount buffer
+
+  ran-to : (S : ℕ) → run (transformationOf counts nodes rules S) free (documentTree numbers) ≡ stepOf free x left
+  unfolding run
+  ran-to S = rw (document-tree numbers) (called S free [] refl (record { one = refl; two = refl }))
+
+  pub closes : (r : RunningAnswer) (o : List ℕ) → runningAnswer r ≡ outcomeAnswer free x → o ≡ zeroFilled (length buffer) (take (numbersKept x) left)
+      → Closes counts nodes rules numbers buffer r o
+  closes r o answered kept S =
+      record {
+        answered = answered ∙ sym (closed-answer (length buffer) free x left) ∙ ap (λ (s : Step ℕ). closing (length buffer) s .answer) (sym (ran-to S));
+        left = kept ∙ sym (closed-rows (length buffer) free x left) ∙ ap (λ (s : Step ℕ). closing (length buffer) s .rows) (sym (ran-to S));
+      }
+
+-- the rules of an admitted transformation have room in a plan
+pub small-rules : {counts nodes rules : List ℕ} → Admitted counts nodes rules → SmallRules rules
+small-rules admitted =
+    record {
+      procedure = λ r h. let good = admitted .rule r h in omega (arith, good .procedure, admitted .procedures .≤most);
+      symbol = λ r h. let good = admitted .rule r h in omega (arith, good .symbol, admitted .symbolsFew);
+    }

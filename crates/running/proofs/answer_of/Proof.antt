@@ -1,0 +1,49 @@
+-- `running::answer_of` meets its contract, case by case.
+use borrow.Author.Needs.{needs}
+use Rattle.running.proofs.answer_of.Statement.{statement}
+use Rattle.running.proofs.answer_of.Tie as tie
+
+enum-known-outcome : tie.Need-enum-known-outcome
+enum-known-outcome c = search needs
+
+wide-requires : tie.Need-wide-requires
+wide-requires c κs = search needs
+
+wide-requires-2 : tie.Need-wide-requires-2
+wide-requires-2 c κs = search needs
+
+enum-known-outcome-2 : tie.Need-enum-known-outcome-2
+enum-known-outcome-2 c = search needs
+
+enum-told : tie.Need-enum-told
+enum-told c = search needs
+
+enum-told-2 : tie.Need-enum-told-2
+enum-told-2 c = search needs
+
+returns : tie.Need-returns
+returns c = rw (c .before .before .before .outcome .given .1, c .before .wide .ensures, c .wide2 .ensures)
+
+returns-2 : tie.Need-returns-2
+returns-2 c = rw (c .before .outcome2 .given .1)
+
+returns-3 : tie.Need-returns-3
+returns-3 c = rw (c .enum-told .given .1)
+
+returns-4 : tie.Need-returns-4
+returns-4 c = search needs
+
+pub answer-of-spec : {M : Type 1} → statement M
+answer-of-spec =
+    tie.close
+    (tie.spec
+    enum-known-outcome
+    wide-requires
+    wide-requires-2
+    enum-known-outcome-2
+    enum-told
+    enum-told-2
+    returns
+    returns-2
+    returns-3
+    returns-4)

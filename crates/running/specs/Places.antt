@@ -1,0 +1,13 @@
+-- What is known of a document and of the places where its trees end.
+use mathlib.Core.List.{List}
+use Prim.Native.Nat.{ℕ, _<_, _≤_}
+use lib.ListN.{length, getD}
+use Rattle.model.proofs.Laws.Documents.{Readable}
+use Rattle.reading.specs.Ends.{EndsFrom}
+
+-- the numbers are a document over at most 16 symbols, and the table has the places where its trees end
+pub record Children (numbers table : List ℕ) : Type 0 where
+  pub few : length numbers ≤ 1023
+  pub symbol : (place : ℕ) → place < length numbers → getD numbers place 0 < 16
+  pub readable : Readable numbers
+  pub end : EndsFrom 0 numbers table

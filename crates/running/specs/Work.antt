@@ -1,0 +1,57 @@
+-- What the code's answers and buffers stand for: work and steps of document 01's running.
+use mathlib.Core.List.{List}
+use Prim.Native.Nat.{ℕ, _+_, _*_}
+use lib.Dec.{eqb}
+use lib.ListN.{getD, take}
+use Rattle.foundation.specs.Tests.{choose}
+use Rattle.model.specs.Tables.{Node, countOf}
+use Rattle.model.specs.Answers.{Answer, ran, refusal}
+use Rattle.model.specs.Running.{Work, Step, made, refused, mostCalls}
+use Rattle.running.specs.declared.Tally.{Tally}
+use Rattle.running.specs.declared.Outcome.{Outcome}
+use Rattle.running.specs.declared.Outcome.the-variants.{Made, NoRule, NoRow, TooManyCalls}
+
+-- the work so far: the first rows of the buffer are the rows used
+abbrev pub workOf : Tally → List ℕ → Work
+workOf tally buffer = record { tally = record { used = tally .used; calls = tally .calls }; rows = take (3 * tally .used) buffer }
+
+-- a step, with the buffer that it left, where so many rows are free at first
+abbrev pub stepOf : ℕ → Outcome → List ℕ → Step ℕ
+stepOf free (Made row tally) buffer = made row (workOf tally buffer)
+stepOf free (NoRule procedure) buffer = refused 13 (procedure .0)
+stepOf free NoRow buffer = refused 14 free
+stepOf free TooManyCalls buffer = refused 15 mostCalls
+
+-- the row of parameter 1 or 2
+abbrev pub parameterRow : ℕ → ℕ → ℕ → ℕ
+parameterRow name first second = choose (eqb name 1) first second
+
+-- how many smaller nodes are evaluated for a node that is no parameter
+unfoldable pub operandCount : List ℕ → Node → ℕ
+operandCount counts n = choose (eqb (n .tag) 1) (choose (eqb (n .name) 0) 0 2) (countOf counts (n .name))
+
+-- the same, read from a plan
+unfoldable pub planOperands : List ℕ → Node → ℕ
+planOperands plan n = choose (eqb (n .tag) 1) (choose (eqb (n .name) 0) 0 2) (getD plan (n .name) 0)
+
+-- the place of the child that a call names, by a table of ends: 1 is the left one, 2 the right one, where the left one ends
+abbrev pub childPlace : List ℕ → ℕ → ℕ → ℕ
+childPlace ends place child = choose (eqb child 1) (place + 1) (getD ends (place + 1) 0)
+
+-- the same, read from a plan
+abbrev pub planChild : List ℕ → ℕ → ℕ → ℕ
+planChild plan place child = choose (eqb child 1) (place + 1) (getD plan (2575 + (place + 1)) 0)
+
+-- how many numbers of the buffer stand at the end
+abbrev pub numbersKept : Outcome → ℕ
+numbersKept (Made row tally) = 3 * tally .used
+numbersKept (NoRule procedure) = 0
+numbersKept NoRow = 0
+numbersKept TooManyCalls = 0
+
+-- the answer, where so many rows are free at first
+abbrev pub outcomeAnswer : ℕ → Outcome → Answer
+outcomeAnswer free (Made row tally) = ran row (tally .used)
+outcomeAnswer free (NoRule procedure) = refusal 13 (procedure .0)
+outcomeAnswer free NoRow = refusal 14 free
+outcomeAnswer free TooManyCalls = refusal 15 mostCalls

@@ -1,0 +1,331 @@
+// Running a transformation on a document: document 01's order of work, its tally and its rows.
+//
+// Calling a procedure evaluates its right side, and evaluating calls procedures on the children: the place in the document
+// goes forward at each call, the node number falls at each evaluation. What the work reads stands in one plan, so that a step
+// of it is small.
+ghost use mathlib.Core.Path.{_≡_};
+ghost use Prim.Native.Nat.{_+_, _<_, _≤_};
+ghost use lib.ListN.{length, take};
+ghost use Rattle.foundation.specs.Lists.{zeroFilled};
+ghost use Rattle.answers.specs.Numbers.{runningAnswer};
+ghost use Rattle.model.specs.Rows.{rowCount};
+ghost use Rattle.model.specs.Tables.{contract};
+ghost use Rattle.model.specs.Running.{addRow, running};
+ghost use Rattle.model.proofs.Laws.Established.{Between};
+ghost use Rattle.tables.specs.Tuples.{nodeOf};
+ghost use Rattle.running.specs.Work.{workOf, stepOf, parameterRow, planOperands, planChild, numbersKept, outcomeAnswer};
+ghost use Rattle.running.specs.Places.{Children};
+ghost use Rattle.running.specs.Contracts.{transformationOf, EndsWith, afterAdmission, Admitted, Closes, EvaluableIn, ApplicableIn, CallableIn, EvaluatesIn, AppliesIn, CallsIn};
+use admission::admit;
+use answers::AdmissionAnswer;
+use answers::RunningAnswer;
+use plans::count_of;
+use plans::end_of;
+use plans::node_of;
+use plans::plan;
+use plans::side_of;
+use plans::symbol_of;
+use reading::DocumentAnswer;
+use reading::document;
+use reading::tree_ends;
+use tables::Node;
+use tables::Procedure;
+use tables::Symbol;
+
+// How many rows are used and how many calls are made.
+pub struct Tally {
+    pub used: u16,
+    pub calls: u32,
+}
+
+// What a step of the work gives.
+pub enum Outcome {
+    // A row, and the tally after it.
+    Made(u16, Tally),
+    // The procedure has no rule where it is called.
+    NoRule(Procedure),
+    // A row is due and none is free.
+    NoRow,
+    // A call past the last that may be made.
+    TooManyCalls,
+}
+
+fn wide(x: u16) -> usize
+    ensures { λ r. ⌜ r ≡ x ⌝ }
+{
+    x as usize
+}
+
+// The place of the child to which a call goes: 1 is the left one, right behind its parent; another the right one, where the
+// left one ends.
+fn child_place(plan: &[u16; 3598], place: usize, child: u16) -> usize
+    requires { ⌜ place < 1022 ⌝ }
+    ensures { λ r. ⌜ r ≡ planChild (now (plan .entry)) place child ⌝ }
+{
+    if child == 1 {
+        place + 1
+    } else {
+        end_of(plan, place + 1)
+    }
+}
+
+// The row that a parameter stands for.
+fn parameter_row(name: u16, first: u16, second: u16) -> u16
+    ensures { λ r. ⌜ r ≡ parameterRow name first second ⌝ }
+{
+    if name == 1 { first } else { second }
+}
+
+// How many smaller nodes are evaluated for a node that is no parameter.
+fn operand_count(plan: &[u16; 3598], node: Node) -> u16
+    requires { ⌜ ((node .tag ≡ 1 → ⊥) → node .name < 16) ⌝ }
+    ensures { λ r. ⌜ r ≡ planOperands (now (plan .entry)) (nodeOf node) ⌝ }
+{
+    if node.tag == 1 {
+        if node.name == 0 { 0 } else { 2 }
+    } else {
+        count_of(plan, Procedure(node.name))
+    }
+}
+
+// Adds a row behind those that are used.
+fn add_row(rows: &mut [u16], tally: Tally, symbol: Symbol, left: u16, right: u16) -> Outcome
+    requires { ⌜ length (now rows) ≤ 12288 ⌝ }
+    ensures { λ r. ⌜ addRow (rowCount (now (rows .entry))) (symbol .0) left right (workOf tally (now (rows .entry))) ≡ stepOf (rowCount (now (rows .entry))) r (now (rows .exit)) ⌝ }
+{
+    let used = tally.used;
+    let at = 3 * wide(used);
+    if rows.len() < at + 3 {
+        return Outcome::NoRow;
+    }
+    rows[at] = symbol.0;
+    rows[at + 1] = left;
+    rows[at + 2] = right;
+    Outcome::Made(
+        used,
+        Tally {
+            used: used + 1,
+            calls: tally.calls,
+        },
+    )
+}
+
+// Evaluates a node at a place of the document, with the rows of the parameters: its operands, left before right, then what
+// it does with their rows.
+fn evaluate(
+    plan: &[u16; 3598],
+    node: usize,
+    place: usize,
+    first: u16,
+    second: u16,
+    rows: &mut [u16],
+    tally: Tally,
+) -> Outcome
+    requires { ⌜ EvaluableIn (now plan) place node ⌝ }
+    requires { ⌜ length (now rows) ≤ 12288 ⌝ }
+    ensures { λ r. ⌜ EvaluatesIn (now (plan .entry)) place node first second (now (rows .entry)) tally r (now (rows .exit)) ⌝ }
+{
+    let here = node_of(plan, node);
+    if here.tag == 0 {
+        return Outcome::Made(parameter_row(here.name, first, second), tally);
+    }
+    let operands = operand_count(plan, here);
+    if operands == 0 {
+        return apply(plan, here, place, 0, 0, rows, tally);
+    }
+    let x = evaluate(plan, wide(here.first), place, first, second, rows, tally);
+    let Outcome::Made(left, after_left) = x else {
+        return x;
+    };
+    if operands == 1 {
+        return apply(plan, here, place, left, 0, rows, after_left);
+    }
+    let y = evaluate(
+        plan,
+        wide(here.second),
+        place,
+        first,
+        second,
+        rows,
+        after_left,
+    );
+    let Outcome::Made(right, after_right) = y else {
+        return y;
+    };
+    apply(plan, here, place, left, right, rows, after_right)
+}
+
+// Ends the evaluation of a node whose operands are evaluated: an output symbol adds its row, a call calls its procedure.
+fn apply(
+    plan: &[u16; 3598],
+    here: Node,
+    place: usize,
+    first: u16,
+    second: u16,
+    rows: &mut [u16],
+    tally: Tally,
+) -> Outcome
+    requires { ⌜ ApplicableIn (now plan) place (nodeOf here) ⌝ }
+    requires { ⌜ length (now rows) ≤ 12288 ⌝ }
+    ensures { λ r. ⌜ AppliesIn (now (plan .entry)) place (nodeOf here) first second (now (rows .entry)) tally r (now (rows .exit)) ⌝ }
+{
+    if here.tag == 1 {
+        return add_row(rows, tally, Symbol(here.name), first, second);
+    }
+    let child = child_place(plan, place, here.child);
+    call(
+        plan,
+        Procedure(here.name),
+        child,
+        first,
+        second,
+        rows,
+        tally,
+    )
+}
+
+// Calls a procedure at a place of the document, with the rows of its parameters. The call is counted before its rule is
+// sought: past the last call it is of no account whether there is one.
+fn call(
+    plan: &[u16; 3598],
+    procedure: Procedure,
+    place: usize,
+    first: u16,
+    second: u16,
+    rows: &mut [u16],
+    tally: Tally,
+) -> Outcome
+    requires { ⌜ CallableIn (now plan) place (procedure .0) ⌝ }
+    requires { ⌜ length (now rows) ≤ 12288 ⌝ }
+    ensures { λ r. ⌜ CallsIn (now (plan .entry)) place (procedure .0) first second (now (rows .entry)) tally r (now (rows .exit)) ⌝ }
+{
+    let calls = tally.calls;
+    let side = side_of(plan, procedure, symbol_of(plan, place));
+    if 65536 <= calls {
+        return Outcome::TooManyCalls;
+    }
+    if 256 <= side {
+        return Outcome::NoRule(procedure);
+    }
+    let counted = Tally {
+        used: tally.used,
+        calls: calls + 1,
+    };
+    evaluate(plan, side, place, first, second, rows, counted)
+}
+
+// Zeros a buffer from a place on.
+fn clear_from(rows: &mut [u16], from: usize)
+    ensures { λ _. ⌜ now (rows .exit) ≡ zeroFilled (length (now (rows .entry))) (take from (now (rows .entry))) ⌝ }
+{
+    let mut i = from;
+    while i < rows.len() {
+        rows[i] = 0;
+        i += 1;
+    }
+}
+
+// How many numbers of the buffer stand at the end of the work.
+fn numbers_kept(outcome: Outcome) -> usize
+    ensures { λ r. ⌜ r ≡ numbersKept outcome ⌝ }
+{
+    let Outcome::Made(_, tally) = outcome else {
+        return 0;
+    };
+    3 * wide(tally.used)
+}
+
+// The answer to the work's outcome, where so many rows are free at first.
+fn answer_of(outcome: Outcome, free: usize) -> RunningAnswer
+    ensures { λ r. ⌜ runningAnswer r ≡ outcomeAnswer free outcome ⌝ }
+{
+    match outcome {
+        Outcome::Made(root, tally) => RunningAnswer::Ran(wide(root), wide(tally.used)),
+        Outcome::NoRule(procedure) => RunningAnswer::NoRule(procedure),
+        Outcome::NoRow => RunningAnswer::NoRow(free),
+        Outcome::TooManyCalls => RunningAnswer::TooManyCalls,
+    }
+}
+
+// Runs procedure 0 on a document, of which it is known where the tree of each place ends.
+fn run_document(
+    counts: &[u16],
+    nodes: &[u16],
+    rules: &[u16],
+    numbers: &[u16],
+    ends: &[u16; 1023],
+    rows: &mut [u16],
+) -> RunningAnswer
+    requires { ⌜ Admitted (now counts) (now nodes) (now rules) ⌝ }
+    requires { ⌜ Children (now numbers) (now ends) ⌝ }
+    requires { ⌜ (1 ≤ length (now numbers)) × (length (now rows) ≤ 12288) ⌝ }
+    ensures { λ r. ⌜ Closes (now (counts .entry)) (now (nodes .entry)) (now (rules .entry)) (now (numbers .entry)) (now (rows .entry)) r (now (rows .exit)) ⌝ }
+{
+    let table = plan(counts, nodes, rules, numbers, ends);
+    let begin = Tally { used: 0, calls: 0 };
+    let outcome = call(&table, Procedure(0), 0, 0, 0, rows, begin);
+    clear_from(rows, numbers_kept(outcome));
+    answer_of(outcome, rows.len() / 3)
+}
+
+// Runs an admitted transformation: the buffer is tested, then the document, and both are left as they are where they are
+// refused.
+fn run_admitted(
+    symbols: usize,
+    counts: &[u16],
+    nodes: &[u16],
+    rules: &[u16],
+    numbers: &[u16],
+    rows: &mut [u16],
+) -> RunningAnswer
+    requires { ⌜ Admitted (now counts) (now nodes) (now rules) ⌝ }
+    requires { ⌜ Between 1 16 symbols ⌝ }
+    ensures { λ r. ⌜ EndsWith (afterAdmission (transformationOf (now (counts .entry)) (now (nodes .entry)) (now (rules .entry)) symbols) (now (numbers .entry)) (now (rows .entry))) (runningAnswer r) (now (rows .exit)) ⌝ }
+{
+    if (rows.len() % 3 != 0) | (12288 < rows.len()) {
+        return RunningAnswer::Buffer;
+    }
+    let answer = document(symbols, numbers);
+    if let DocumentAnswer::Refused(fault) = answer {
+        return RunningAnswer::Document(fault);
+    }
+    let ends = tree_ends(numbers);
+    run_document(counts, nodes, rules, numbers, &ends, rows)
+}
+
+// Runs a contract's transformation on a document: the answer, with the rows in the buffer.
+pub fn run(
+    symbols: usize,
+    input_states: usize,
+    output_states: usize,
+    counts: &[u16],
+    input_rows: &[u16],
+    input_marks: &[u16],
+    output_table: &[u16],
+    output_marks: &[u16],
+    nodes: &[u16],
+    rules: &[u16],
+    numbers: &[u16],
+    rows: &mut [u16],
+) -> RunningAnswer
+    ensures { λ r. ⌜ EndsWith (running (contract symbols «input_states» «output_states» (now (counts .entry)) (now («input_rows» .entry)) (now («input_marks» .entry))
+        (now («output_table» .entry)) (now («output_marks» .entry)) (now (nodes .entry)) (now (rules .entry))) (now (numbers .entry)) (now (rows .entry)))
+        (runningAnswer r) (now (rows .exit)) ⌝ }
+{
+    let admitted = admit(
+        symbols,
+        input_states,
+        output_states,
+        counts,
+        input_rows,
+        input_marks,
+        output_table,
+        output_marks,
+        nodes,
+        rules,
+    );
+    if let AdmissionAnswer::Refused(fault) = admitted {
+        return RunningAnswer::Contract(fault);
+    }
+    run_admitted(symbols, counts, nodes, rules, numbers, rows)
+}
