@@ -19,8 +19,9 @@ use Rattle.model.proofs.Laws.Established.{GoodNode}
 use Rattle.running.specs.declared.Tally.{Tally}
 use Rattle.running.specs.declared.Outcome.{Outcome}
 use Rattle.running.specs.declared.Outcome.the-variants.{Made, NoRule, NoRow, TooManyCalls}
+use Rattle.plans.specs.Plans.{planNode}
 use Rattle.running.specs.Work.{workOf, stepOf, parameterRow, operandCount, numbersKept}
-use Rattle.running.specs.Contracts.{Evaluable, Applicable, Carries, childRuns, Evaluates, Applies, transformationOf}
+use Rattle.running.specs.Contracts.{EvaluableIn, Evaluable, Applicable, Carries, childRuns, Evaluates, Applies, transformationOf}
 use Rattle.running.proofs.Outcome.{the-type}
 use Rattle.running.proofs.Steps.{step-parameter, step-none, step-one, step-two, first-smaller, second-smaller, first-quiet, second-quiet, call-not-quiet, call-good, parameter-name}
 
@@ -58,10 +59,31 @@ nonzero r n e h = omega arith
 pub above-one : (r n : ℕ) → r ≡ n → (r ≡ 0 → ⊥) → (r ≡ 1 → ⊥) → 2 ≤ n
 above-one r n e h g = omega arith
 
--- node k, at a place of the document
-module _ (counts nodes rules numbers : List ℕ) (place k : ℕ) {S : ℕ} (good : GoodNode S counts k (nodeAt nodes k)) (n : Node) (en : n ≡ nodeAt nodes k) where
+-- node k of a plan, at a place of the document
+module _ {plan : List ℕ} {place k : ℕ} (asked : EvaluableIn plan place k) (n : Node) (read : n ≡ planNode plan k) where
+  abbrev counts : List ℕ
+  counts = asked .known .counts
+
+  abbrev nodes : List ℕ
+  nodes = asked .known .nodes
+
+  abbrev rules : List ℕ
+  rules = asked .known .rules
+
+  abbrev numbers : List ℕ
+  numbers = asked .known .numbers
+
+  abbrev able : Evaluable counts nodes numbers place k
+  able = asked .able
+
+  good : GoodNode (asked .known .tables .symbols) counts k (nodeAt nodes k)
+  good = asked .known .tables .node k (able .there)
+
+  en : n ≡ nodeAt nodes k
+  en = read ∙ asked .known .laid .node k (able .there)
+
   -- its operands can be evaluated, and then it can be applied
-  module _ (able : Evaluable counts nodes numbers place k) (inner : n .tag ≡ 0 → ⊥) where
+  module _ (inner : n .tag ≡ 0 → ⊥) where
     pub first-evaluable : (m : ℕ) → m ≡ n .first → 1 ≤ operandCount counts n → Evaluable counts nodes numbers place m
     first-evaluable m em o =
         let o′ : 1 ≤ operandCount counts (nodeAt nodes k) = rw en at o in

@@ -5,10 +5,9 @@ use mathlib.Core.Path.{_≡_, refl, sym, _∙_}
 use native.Mathlib.Omega.{arith}
 use lib.ListN.{length}
 use Rattle.tables.specs.Tuples.{nodeOf}
-use Rattle.running.specs.declared.Outcome.the-variants.{NoRow}
 use Rattle.running.specs.Work.{operandCount}
 use Rattle.running.proofs.Evaluating.{parameter-evaluated, none-evaluated, first-stopped, one-evaluated, second-stopped, two-evaluated, applicable, first-evaluable, second-evaluable, first-falls, second-falls, nonzero, above-one}
-use Rattle.running.proofs.Calling.{row-applied, call-applied, left-inside, child-behind, child-inside, operands-read, child-read, symbol-small, too-many, no-rule, called, side-evaluable}
+use Rattle.running.proofs.Calling.{row-applied, call-applied, left-inside, child-behind, child-callable, operands-read, symbol-small, too-many, no-rule, called, side-evaluable}
 use Prim.Native.Nat.{ℕ, _+_, _*_, _-_, _<_}
 use borrow.Fn.Kinds.{In}
 use borrow.Fn.PlainCycle.{Measures, is, falls, and}
@@ -90,8 +89,7 @@ apply-returns : (t : ℕ) → apply-lts.Need-returns (
 ) (apply-at t) apply.Post
 apply-returns t c = λ asked.
     let s = c .before .before .before .before .before .before .before .args in
-    row-applied (asked .known .counts) (asked .known .nodes) (asked .known .rules) (asked .known .numbers) (s .place) (s .first) (s .second) (s .rows .now) (s .tally)
-    (c .before .before .add-row .result) (c .before .before .add-row .last .0) (nodeOf (s .here)) (c .before .before .before .before .if1 .taken) (c .before .before .add-row .ensures)
+    row-applied asked (s .first) (s .second) (s .rows .now) (s .tally) (c .before .before .add-row .result) (c .before .before .add-row .last .0) (c .before .before .before .before .if1 .taken) (c .before .before .add-row .ensures)
 
 apply-child-place-requires : (t : ℕ) → apply-lts.Need-child-place-requires (
   add-row-reads.Asked,
@@ -104,8 +102,7 @@ apply-child-place-requires : (t : ℕ) → apply-lts.Need-child-place-requires (
 apply-child-place-requires t c κs =
     let s = c .before .before .before .args in
     let asked = c .before .before .before .pre .1 .0 in
-    let inside = left-inside (asked .known .counts) (asked .known .nodes) (asked .known .rules) (asked .known .numbers) (s .place) (s .first) (s .second) (s .rows .now) (s .tally)
-    NoRow (s .rows .now) (asked .known .ends) (asked .known .text) (nodeOf (s .here)) (asked .able) (c .if1 .left) in
+    let inside = left-inside asked (c .if1 .left) in
     omega (arith, asked .known .text .few)
 
 apply-call-requires : (t : ℕ) → apply-lts.Need-call-requires (
@@ -119,14 +116,10 @@ apply-call-requires : (t : ℕ) → apply-lts.Need-call-requires (
 apply-call-requires t c κs =
     let s = c .before .before .before .before .before .args in
     let asked = c .before .before .before .before .before .pre .1 .0 in
-    let inside = left-inside (asked .known .counts) (asked .known .nodes) (asked .known .rules) (asked .known .numbers) (s .place) (s .first) (s .second) (s .rows .now) (s .tally)
-    NoRow (s .rows .now) (asked .known .ends) (asked .known .text) (nodeOf (s .here)) (asked .able) (c .before .before .if1 .left) in
     let few = asked .known .text .few in
-    let behind = child-behind (asked .known .counts) (asked .known .nodes) (asked .known .rules) (asked .known .numbers) (s .place) (s .first) (s .second) (s .rows .now) (s .tally)
-    NoRow (s .rows .now) (asked .known .ends) (asked .known .text) (nodeOf (s .here)) (asked .able) (c .before .before .if1 .left) (c .before .child-place .result) (c .before .child-place .ensures ∙ child-read (asked .known .laid) (s .place) (s .here .child) inside) in
-    let there = child-inside (asked .known .counts) (asked .known .nodes) (asked .known .rules) (asked .known .numbers) (s .place) (s .first) (s .second) (s .rows .now) (s .tally)
-    NoRow (s .rows .now) (asked .known .ends) (asked .known .text) (nodeOf (s .here)) (asked .able) (c .before .before .if1 .left) (c .before .child-place .result) (c .before .child-place .ensures ∙ child-read (asked .known .laid) (s .place) (s .here .child) inside) in
-    (omega (arith, c .before .before .before .before .before .pre .0), (record { known = asked .known; inside = there; named = asked .able .call (c .before .before .if1 .left) .procedure }, c .before .before .before .before .before .pre .1 .1))
+    let behind = child-behind asked (c .before .before .if1 .left) (c .before .child-place .result) (c .before .child-place .ensures) in
+    let callable = child-callable asked (c .before .before .if1 .left) (c .before .child-place .result) (c .before .child-place .ensures) in
+    (omega (arith, c .before .before .before .before .before .pre .0, callable .inside), (callable, c .before .before .before .before .before .pre .1 .1))
 
 apply-same-length-2 : (t : ℕ) → apply-lts.Need-same-length-2 (
   add-row-reads.Asked,
@@ -148,13 +141,8 @@ apply-returns-2 : (t : ℕ) → apply-lts.Need-returns-2 (
 ) (apply-at t) apply.Post
 apply-returns-2 t c = λ asked.
     let s = c .before .before .before .before .before .before .before .before .args in
-    let inside = left-inside (asked .known .counts) (asked .known .nodes) (asked .known .rules) (asked .known .numbers) (s .place) (s .first) (s .second) (s .rows .now) (s .tally)
-    NoRow (s .rows .now) (asked .known .ends) (asked .known .text) (nodeOf (s .here)) (asked .able) (c .before .before .before .before .before .if1 .left) in
-    let there = child-inside (asked .known .counts) (asked .known .nodes) (asked .known .rules) (asked .known .numbers) (s .place) (s .first) (s .second) (s .rows .now) (s .tally)
-    NoRow (s .rows .now) (asked .known .ends) (asked .known .text) (nodeOf (s .here)) (asked .able) (c .before .before .before .before .before .if1 .left) (c .before .before .before .before .child-place .result) (c .before .before .before .before .child-place .ensures ∙ child-read (asked .known .laid) (s .place) (s .here .child) inside) in
-    call-applied (asked .known .counts) (asked .known .nodes) (asked .known .rules) (asked .known .numbers) (s .place) (s .first) (s .second) (s .rows .now) (s .tally)
-    (c .before .before .call .result) (c .before .before .call .last .1 .1 .1 .1 .1 .0) (asked .known .ends) (asked .known .text) (nodeOf (s .here)) (asked .able) (c .before .before .before .before .before .if1 .left) (c .before .before .before .before .child-place .result) (c .before .before .before .before .child-place .ensures ∙ child-read (asked .known .laid) (s .place) (s .here .child) inside)
-    (c .before .before .call .ensures (record { known = asked .known; inside = there; named = asked .able .call (c .before .before .before .before .before .if1 .left) .procedure }))
+    call-applied asked (c .before .before .before .before .before .if1 .left) (c .before .before .before .before .child-place .result) (c .before .before .before .before .child-place .ensures) (s .first) (s .second) (s .rows .now) (s .tally)
+    (c .before .before .call .result) (c .before .before .call .last .1 .1 .1 .1 .1 .0) (c .before .before .call .ensures (child-callable asked (c .before .before .before .before .before .if1 .left) (c .before .before .before .before .child-place .result) (c .before .before .before .before .child-place .ensures)))
 
 call-symbol-of-requires : (t : ℕ) → call-lts.Need-symbol-of-requires (
   symbol-of-reads.Asked,
@@ -177,7 +165,7 @@ call-side-of-requires : (t : ℕ) → call-lts.Need-side-of-requires (
 call-side-of-requires t c κs =
     let s = c .before .before .args in
     let asked = c .before .before .pre .1 .0 in
-    (omega (arith, asked .named, asked .known .tables .procedures .≤most), symbol-small (asked .known .laid) (asked .known .tables) (asked .known .text) (s .place) (s .procedure .0) (asked .inside) (asked .named) (c .symbol-of .result .0) (c .symbol-of .ensures) _ refl)
+    (omega (arith, asked .named, asked .known .tables .procedures .≤most), symbol-small asked (c .symbol-of .result .0) (c .symbol-of .ensures))
 
 call-returns : (t : ℕ) → call-lts.Need-returns (
   symbol-of-reads.Asked,
@@ -189,7 +177,7 @@ call-returns : (t : ℕ) → call-lts.Need-returns (
 ) (call-at t) call.Post
 call-returns t c = λ asked.
     let s = c .before .before .before .before .args in
-    too-many (asked .known .counts) (asked .known .nodes) (asked .known .rules) (asked .known .numbers) (s .place) (s .procedure .0) (s .first) (s .second) (s .rows .now) (s .tally) (c .if1 .taken)
+    too-many asked (s .first) (s .second) (s .rows .now) (s .tally) (c .if1 .taken)
 
 call-returns-2 : (t : ℕ) → call-lts.Need-returns-2 (
   symbol-of-reads.Asked,
@@ -201,8 +189,7 @@ call-returns-2 : (t : ℕ) → call-lts.Need-returns-2 (
 ) (call-at t) call.Post
 call-returns-2 t c = λ asked.
     let s = c .before .before .before .before .before .args in
-    no-rule (asked .known .laid) (asked .known .tables) (asked .known .text) (s .place) (s .procedure .0) (asked .inside) (asked .named) (c .before .before .before .symbol-of .result .0) (c .before .before .before .symbol-of .ensures)
-    (c .before .before .side-of .result) (c .before .before .side-of .ensures) (s .first) (s .second) (s .rows .now) (s .tally) (c .before .if1 .left) (c .if2 .taken) (s .procedure) refl
+    no-rule asked (c .before .before .before .symbol-of .result .0) (c .before .before .before .symbol-of .ensures) (c .before .before .side-of .result) (c .before .before .side-of .ensures) (s .first) (s .second) (s .rows .now) (s .tally) (c .before .if1 .left) (c .if2 .taken) (s .procedure) refl
 
 call-add-t13 : (t : ℕ) → call-lts.Need-add-t13 (
   symbol-of-reads.Asked,
@@ -225,9 +212,8 @@ call-evaluate-requires : (t : ℕ) → call-lts.Need-evaluate-requires (
 call-evaluate-requires t c κs =
     let s = c .before .before .before .before .before .before .args in
     let asked = c .before .before .before .before .before .before .pre .1 .0 in
-    let able = side-evaluable (asked .known .laid) (asked .known .tables) (asked .known .text) (s .place) (s .procedure .0) (asked .inside) (asked .named) (c .before .before .before .before .symbol-of .result .0) (c .before .before .before .before .symbol-of .ensures)
-    (c .before .before .before .side-of .result) (c .before .before .before .side-of .ensures) (c .before .if2 .left) in
-    (omega (arith, c .before .before .before .before .before .before .pre .0), (record { known = asked .known; able = able }, c .before .before .before .before .before .before .pre .1 .1))
+    let able = side-evaluable asked (c .before .before .before .before .symbol-of .result .0) (c .before .before .before .before .symbol-of .ensures) (c .before .before .before .side-of .result) (c .before .before .before .side-of .ensures) (c .before .if2 .left) in
+    (omega (arith, c .before .before .before .before .before .before .pre .0, able .able .there, asked .known .tables .nodesFew), (able, c .before .before .before .before .before .before .pre .1 .1))
 
 call-same-length : (t : ℕ) → call-lts.Need-same-length (
   symbol-of-reads.Asked,
@@ -249,11 +235,8 @@ call-returns-3 : (t : ℕ) → call-lts.Need-returns-3 (
 ) (call-at t) call.Post
 call-returns-3 t c = λ asked.
     let s = c .before .before .before .before .before .before .before .before .before .args in
-    let able = side-evaluable (asked .known .laid) (asked .known .tables) (asked .known .text) (s .place) (s .procedure .0) (asked .inside) (asked .named) (c .before .before .before .before .before .before .before .symbol-of .result .0) (c .before .before .before .before .before .before .before .symbol-of .ensures)
-    (c .before .before .before .before .before .before .side-of .result) (c .before .before .before .before .before .before .side-of .ensures) (c .before .before .before .before .if2 .left) in
-    called (asked .known .laid) (asked .known .tables) (asked .known .text) (s .place) (s .procedure .0) (asked .inside) (asked .named) (c .before .before .before .before .before .before .before .symbol-of .result .0) (c .before .before .before .before .before .before .before .symbol-of .ensures)
-    (c .before .before .before .before .before .before .side-of .result) (c .before .before .before .before .before .before .side-of .ensures) (s .first) (s .second) (s .rows .now) (s .tally) (c .before .before .before .before .before .if1 .left) (c .before .before .before .before .if2 .left)
-    (c .before .before .evaluate .result) (c .before .before .evaluate .last .1 .1 .1 .1 .1 .0) (c .before .before .evaluate .ensures (record { known = asked .known; able = able }))
+    called asked (c .before .before .before .before .before .before .before .symbol-of .result .0) (c .before .before .before .before .before .before .before .symbol-of .ensures) (c .before .before .before .before .before .before .side-of .result) (c .before .before .before .before .before .before .side-of .ensures) (s .first) (s .second) (s .rows .now) (s .tally) (c .before .before .before .before .before .if1 .left) (c .before .before .before .before .if2 .left)
+    (c .before .before .evaluate .result) (c .before .before .evaluate .last .1 .1 .1 .1 .1 .0) (c .before .before .evaluate .ensures (side-evaluable asked (c .before .before .before .before .before .before .before .symbol-of .result .0) (c .before .before .before .before .before .before .before .symbol-of .ensures) (c .before .before .before .before .before .before .side-of .result) (c .before .before .before .before .before .before .side-of .ensures) (c .before .before .before .before .if2 .left)))
 
 evaluate-node-of-requires : (t : ℕ) → evaluate-lts.Need-node-of-requires (
   node-of-reads.Asked,
@@ -303,8 +286,7 @@ evaluate-returns : (t : ℕ) → evaluate-lts.Need-returns (
 ) (evaluate-at t) evaluate.Post
 evaluate-returns t c = λ asked.
     let s = c .before .before .before .before .before .args in
-    parameter-evaluated (asked .known .counts) (asked .known .nodes) (asked .known .rules) (asked .known .numbers) (s .place) (s .node) (asked .known .tables .node (s .node) (asked .able .there))
-    (nodeOf (c .before .before .before .node-of .result)) (c .before .before .before .node-of .ensures ∙ asked .known .laid .node (s .node) (asked .able .there))
+    parameter-evaluated asked (nodeOf (c .before .before .before .node-of .result)) (c .before .before .before .node-of .ensures)
     (s .first) (s .second) (s .rows .now) (s .tally) (c .before .if1 .taken) (c .parameter-row .result) (c .parameter-row .ensures)
 
 evaluate-operand-count-requires : (t : ℕ) → evaluate-lts.Need-operand-count-requires (
@@ -324,8 +306,7 @@ evaluate-operand-count-requires : (t : ℕ) → evaluate-lts.Need-operand-count-
 evaluate-operand-count-requires t c κs = λ other.
     let s = c .before .before .before .before .args in
     let asked = c .before .before .before .before .pre .1 .0 in
-    let named = applicable (asked .known .counts) (asked .known .nodes) (asked .known .rules) (asked .known .numbers) (s .place) (s .node) (asked .known .tables .node (s .node) (asked .able .there))
-    (nodeOf (c .before .before .node-of .result)) (c .before .before .node-of .ensures ∙ asked .known .laid .node (s .node) (asked .able .there)) (asked .able) (c .if1 .left) .call other .procedure in
+    let named = applicable asked (nodeOf (c .before .before .node-of .result)) (c .before .before .node-of .ensures) (c .if1 .left) .call other .procedure in
     omega (arith, asked .known .tables .procedures .≤most)
 
 evaluate-apply-requires : (t : ℕ) → evaluate-lts.Need-apply-requires (
@@ -345,8 +326,7 @@ evaluate-apply-requires : (t : ℕ) → evaluate-lts.Need-apply-requires (
 evaluate-apply-requires t c κs =
     let s = c .before .before .before .before .before .before .before .args in
     let asked = c .before .before .before .before .before .before .before .pre .1 .0 in
-    let ready = applicable (asked .known .counts) (asked .known .nodes) (asked .known .rules) (asked .known .numbers) (s .place) (s .node) (asked .known .tables .node (s .node) (asked .able .there))
-    (nodeOf (c .before .before .before .before .before .node-of .result)) (c .before .before .before .before .before .node-of .ensures ∙ asked .known .laid .node (s .node) (asked .able .there)) (asked .able) (c .before .before .before .if1 .left) in
+    let ready = applicable asked (nodeOf (c .before .before .before .before .before .node-of .result)) (c .before .before .before .before .before .node-of .ensures) (c .before .before .before .if1 .left) in
     (omega (arith, c .before .before .before .before .before .before .before .pre .0), ((record { known = asked .known; able = ready }), c .before .before .before .before .before .before .before .pre .1 .1))
 
 evaluate-same-length : (t : ℕ) → evaluate-lts.Need-same-length (
@@ -381,12 +361,10 @@ evaluate-returns-2 : (t : ℕ) → evaluate-lts.Need-returns-2 (
 ) (evaluate-at t) evaluate.Post
 evaluate-returns-2 t c = λ asked.
     let s = c .before .before .before .before .before .before .before .before .before .before .args in
-    let ready = applicable (asked .known .counts) (asked .known .nodes) (asked .known .rules) (asked .known .numbers) (s .place) (s .node) (asked .known .tables .node (s .node) (asked .able .there))
-    (nodeOf (c .before .before .before .before .before .before .before .before .node-of .result)) (c .before .before .before .before .before .before .before .before .node-of .ensures ∙ asked .known .laid .node (s .node) (asked .able .there)) (asked .able) (c .before .before .before .before .before .before .if1 .left) in
+    let ready = applicable asked (nodeOf (c .before .before .before .before .before .before .before .before .node-of .result)) (c .before .before .before .before .before .before .before .before .node-of .ensures) (c .before .before .before .before .before .before .if1 .left) in
     let counted : c .before .before .before .before .before .operand-count .result ≡ operandCount (asked .known .counts) (nodeOf (c .before .before .before .before .before .before .before .before .node-of .result)) =
     c .before .before .before .before .before .operand-count .ensures ∙ operands-read (asked .known .laid) (nodeOf (c .before .before .before .before .before .before .before .before .node-of .result)) (λ other. ready .call other .procedure) in
-    none-evaluated (asked .known .counts) (asked .known .nodes) (asked .known .rules) (asked .known .numbers) (s .place) (s .node) (asked .known .tables .node (s .node) (asked .able .there))
-    (nodeOf (c .before .before .before .before .before .before .before .before .node-of .result)) (c .before .before .before .before .before .before .before .before .node-of .ensures ∙ asked .known .laid .node (s .node) (asked .able .there))
+    none-evaluated asked (nodeOf (c .before .before .before .before .before .before .before .before .node-of .result)) (c .before .before .before .before .before .before .before .before .node-of .ensures)
     (s .first) (s .second) (s .rows .now) (s .tally) (c .before .before .before .before .before .before .if1 .left) (sym counted ∙ c .before .before .before .before .if2 .taken) (c .before .before .apply .result) (c .before .before .apply .last .1 .1 .1 .1 .1 .0) (c .before .before .apply .ensures (record { known = asked .known; able = ready }))
 
 evaluate-wide-requires : (t : ℕ) → evaluate-lts.Need-wide-requires (
@@ -422,15 +400,12 @@ evaluate-evaluate-requires : (t : ℕ) → evaluate-lts.Need-evaluate-requires (
 evaluate-evaluate-requires t c κs =
     let s = c .before .before .before .before .before .before .before .before .args in
     let asked = c .before .before .before .before .before .before .before .before .pre .1 .0 in
-    let ready = applicable (asked .known .counts) (asked .known .nodes) (asked .known .rules) (asked .known .numbers) (s .place) (s .node) (asked .known .tables .node (s .node) (asked .able .there))
-    (nodeOf (c .before .before .before .before .before .before .node-of .result)) (c .before .before .before .before .before .before .node-of .ensures ∙ asked .known .laid .node (s .node) (asked .able .there)) (asked .able) (c .before .before .before .before .if1 .left) in
+    let ready = applicable asked (nodeOf (c .before .before .before .before .before .before .node-of .result)) (c .before .before .before .before .before .before .node-of .ensures) (c .before .before .before .before .if1 .left) in
     let counted : c .before .before .before .operand-count .result ≡ operandCount (asked .known .counts) (nodeOf (c .before .before .before .before .before .before .node-of .result)) =
     c .before .before .before .operand-count .ensures ∙ operands-read (asked .known .laid) (nodeOf (c .before .before .before .before .before .before .node-of .result)) (λ other. ready .call other .procedure) in
     let some = nonzero (c .before .before .before .operand-count .result) (operandCount (asked .known .counts) (nodeOf (c .before .before .before .before .before .before .node-of .result))) counted (c .before .before .if2 .left) in
-    let able = first-evaluable (asked .known .counts) (asked .known .nodes) (asked .known .rules) (asked .known .numbers) (s .place) (s .node) (asked .known .tables .node (s .node) (asked .able .there))
-    (nodeOf (c .before .before .before .before .before .before .node-of .result)) (c .before .before .before .before .before .before .node-of .ensures ∙ asked .known .laid .node (s .node) (asked .able .there)) (asked .able) (c .before .before .before .before .if1 .left) (c .before .wide .result) (c .before .wide .ensures) some in
-    let smaller = first-falls (asked .known .counts) (asked .known .nodes) (asked .known .rules) (asked .known .numbers) (s .place) (s .node) (asked .known .tables .node (s .node) (asked .able .there))
-    (nodeOf (c .before .before .before .before .before .before .node-of .result)) (c .before .before .before .before .before .before .node-of .ensures ∙ asked .known .laid .node (s .node) (asked .able .there)) (c .before .before .before .before .if1 .left) (c .before .wide .result) (c .before .wide .ensures) some in
+    let able = first-evaluable asked (nodeOf (c .before .before .before .before .before .before .node-of .result)) (c .before .before .before .before .before .before .node-of .ensures) (c .before .before .before .before .if1 .left) (c .before .wide .result) (c .before .wide .ensures) some in
+    let smaller = first-falls asked (nodeOf (c .before .before .before .before .before .before .node-of .result)) (c .before .before .before .before .before .before .node-of .ensures) (c .before .before .before .before .if1 .left) (c .before .wide .result) (c .before .wide .ensures) some in
     (omega (arith, c .before .before .before .before .before .before .before .before .pre .0), (record { known = asked .known; able = able }, c .before .before .before .before .before .before .before .before .pre .1 .1))
 
 evaluate-enum-known-x : (t : ℕ) → evaluate-lts.Need-enum-known-x (
@@ -481,15 +456,12 @@ evaluate-returns-3 : (t : ℕ) → evaluate-lts.Need-returns-3 (
 ) (evaluate-at t) evaluate.Post
 evaluate-returns-3 t c = λ asked.
     let s = c .before .before .before .before .before .before .before .before .before .before .before .before .args in
-    let ready = applicable (asked .known .counts) (asked .known .nodes) (asked .known .rules) (asked .known .numbers) (s .place) (s .node) (asked .known .tables .node (s .node) (asked .able .there))
-    (nodeOf (c .before .before .before .before .before .before .before .before .before .before .node-of .result)) (c .before .before .before .before .before .before .before .before .before .before .node-of .ensures ∙ asked .known .laid .node (s .node) (asked .able .there)) (asked .able) (c .before .before .before .before .before .before .before .before .if1 .left) in
+    let ready = applicable asked (nodeOf (c .before .before .before .before .before .before .before .before .before .before .node-of .result)) (c .before .before .before .before .before .before .before .before .before .before .node-of .ensures) (c .before .before .before .before .before .before .before .before .if1 .left) in
     let counted : c .before .before .before .before .before .before .before .operand-count .result ≡ operandCount (asked .known .counts) (nodeOf (c .before .before .before .before .before .before .before .before .before .before .node-of .result)) =
     c .before .before .before .before .before .before .before .operand-count .ensures ∙ operands-read (asked .known .laid) (nodeOf (c .before .before .before .before .before .before .before .before .before .before .node-of .result)) (λ other. ready .call other .procedure) in
     let some = nonzero (c .before .before .before .before .before .before .before .operand-count .result) (operandCount (asked .known .counts) (nodeOf (c .before .before .before .before .before .before .before .before .before .before .node-of .result))) counted (c .before .before .before .before .before .before .if2 .left) in
-    let able = first-evaluable (asked .known .counts) (asked .known .nodes) (asked .known .rules) (asked .known .numbers) (s .place) (s .node) (asked .known .tables .node (s .node) (asked .able .there))
-    (nodeOf (c .before .before .before .before .before .before .before .before .before .before .node-of .result)) (c .before .before .before .before .before .before .before .before .before .before .node-of .ensures ∙ asked .known .laid .node (s .node) (asked .able .there)) (asked .able) (c .before .before .before .before .before .before .before .before .if1 .left) (c .before .before .before .before .before .wide .result) (c .before .before .before .before .before .wide .ensures) some in
-    first-stopped (asked .known .counts) (asked .known .nodes) (asked .known .rules) (asked .known .numbers) (s .place) (s .node) (asked .known .tables .node (s .node) (asked .able .there))
-    (nodeOf (c .before .before .before .before .before .before .before .before .before .before .node-of .result)) (c .before .before .before .before .before .before .before .before .before .before .node-of .ensures ∙ asked .known .laid .node (s .node) (asked .able .there))
+    let able = first-evaluable asked (nodeOf (c .before .before .before .before .before .before .before .before .before .before .node-of .result)) (c .before .before .before .before .before .before .before .before .before .before .node-of .ensures) (c .before .before .before .before .before .before .before .before .if1 .left) (c .before .before .before .before .before .wide .result) (c .before .before .before .before .before .wide .ensures) some in
+    first-stopped asked (nodeOf (c .before .before .before .before .before .before .before .before .before .before .node-of .result)) (c .before .before .before .before .before .before .before .before .before .before .node-of .ensures)
     (s .first) (s .second) (s .rows .now) (s .tally) (c .before .before .before .before .before .before .before .before .if1 .left) (c .before .before .before .before .before .wide .result) (c .before .before .before .before .before .wide .ensures) (c .before .before .before .evaluate .result) (c .before .before .before .evaluate .last .1 .1 .1 .1 .1 .0) (c .before .before .before .evaluate .ensures (record { known = asked .known; able = able })) some (c .match .keys2)
 
 evaluate-apply-requires-2 : (t : ℕ) → evaluate-lts.Need-apply-requires-2 (
@@ -511,8 +483,7 @@ evaluate-apply-requires-2 t c κs =
     let asked = c .before .before .before .before .before .before .before .before .before .before .before .before .before .before .before .before .pre .1 .0 in
     let few = c .before .before .before .before .before .before .before .before .before .before .before .before .before .before .before .before .pre .1 .1 in
     let same : length (c .before .before .before .before .before .before .before .evaluate .last .1 .1 .1 .1 .1 .0) ≡ length (s .rows .now) = c .before .before .before .before .before .before .before .evaluate .kept .1 .1 .1 .1 .1 .0 in
-    let ready = applicable (asked .known .counts) (asked .known .nodes) (asked .known .rules) (asked .known .numbers) (s .place) (s .node) (asked .known .tables .node (s .node) (asked .able .there))
-    (nodeOf (c .before .before .before .before .before .before .before .before .before .before .before .before .before .before .node-of .result)) (c .before .before .before .before .before .before .before .before .before .before .before .before .before .before .node-of .ensures ∙ asked .known .laid .node (s .node) (asked .able .there)) (asked .able) (c .before .before .before .before .before .before .before .before .before .before .before .before .if1 .left) in
+    let ready = applicable asked (nodeOf (c .before .before .before .before .before .before .before .before .before .before .before .before .before .before .node-of .result)) (c .before .before .before .before .before .before .before .before .before .before .before .before .before .before .node-of .ensures) (c .before .before .before .before .before .before .before .before .before .before .before .before .if1 .left) in
     (omega (arith, c .before .before .before .before .before .before .before .before .before .before .before .before .before .before .before .before .pre .0), ((record { known = asked .known; able = ready }), omega arith))
 
 evaluate-same-length-3 : (t : ℕ) → evaluate-lts.Need-same-length-3 (
@@ -547,15 +518,12 @@ evaluate-returns-4 : (t : ℕ) → evaluate-lts.Need-returns-4 (
 ) (evaluate-at t) evaluate.Post
 evaluate-returns-4 t c = λ asked.
     let s = c .before .before .before .before .before .before .before .before .before .before .before .before .before .before .before .before .before .before .before .args in
-    let ready = applicable (asked .known .counts) (asked .known .nodes) (asked .known .rules) (asked .known .numbers) (s .place) (s .node) (asked .known .tables .node (s .node) (asked .able .there))
-    (nodeOf (c .before .before .before .before .before .before .before .before .before .before .before .before .before .before .before .before .before .node-of .result)) (c .before .before .before .before .before .before .before .before .before .before .before .before .before .before .before .before .before .node-of .ensures ∙ asked .known .laid .node (s .node) (asked .able .there)) (asked .able) (c .before .before .before .before .before .before .before .before .before .before .before .before .before .before .before .if1 .left) in
+    let ready = applicable asked (nodeOf (c .before .before .before .before .before .before .before .before .before .before .before .before .before .before .before .before .before .node-of .result)) (c .before .before .before .before .before .before .before .before .before .before .before .before .before .before .before .before .before .node-of .ensures) (c .before .before .before .before .before .before .before .before .before .before .before .before .before .before .before .if1 .left) in
     let counted : c .before .before .before .before .before .before .before .before .before .before .before .before .before .before .operand-count .result ≡ operandCount (asked .known .counts) (nodeOf (c .before .before .before .before .before .before .before .before .before .before .before .before .before .before .before .before .before .node-of .result)) =
     c .before .before .before .before .before .before .before .before .before .before .before .before .before .before .operand-count .ensures ∙ operands-read (asked .known .laid) (nodeOf (c .before .before .before .before .before .before .before .before .before .before .before .before .before .before .before .before .before .node-of .result)) (λ other. ready .call other .procedure) in
     let some = nonzero (c .before .before .before .before .before .before .before .before .before .before .before .before .before .before .operand-count .result) (operandCount (asked .known .counts) (nodeOf (c .before .before .before .before .before .before .before .before .before .before .before .before .before .before .before .before .before .node-of .result))) counted (c .before .before .before .before .before .before .before .before .before .before .before .before .before .if2 .left) in
-    let able = first-evaluable (asked .known .counts) (asked .known .nodes) (asked .known .rules) (asked .known .numbers) (s .place) (s .node) (asked .known .tables .node (s .node) (asked .able .there))
-    (nodeOf (c .before .before .before .before .before .before .before .before .before .before .before .before .before .before .before .before .before .node-of .result)) (c .before .before .before .before .before .before .before .before .before .before .before .before .before .before .before .before .before .node-of .ensures ∙ asked .known .laid .node (s .node) (asked .able .there)) (asked .able) (c .before .before .before .before .before .before .before .before .before .before .before .before .before .before .before .if1 .left) (c .before .before .before .before .before .before .before .before .before .before .before .before .wide .result) (c .before .before .before .before .before .before .before .before .before .before .before .before .wide .ensures) some in
-    one-evaluated (asked .known .counts) (asked .known .nodes) (asked .known .rules) (asked .known .numbers) (s .place) (s .node) (asked .known .tables .node (s .node) (asked .able .there))
-    (nodeOf (c .before .before .before .before .before .before .before .before .before .before .before .before .before .before .before .before .before .node-of .result)) (c .before .before .before .before .before .before .before .before .before .before .before .before .before .before .before .before .before .node-of .ensures ∙ asked .known .laid .node (s .node) (asked .able .there))
+    let able = first-evaluable asked (nodeOf (c .before .before .before .before .before .before .before .before .before .before .before .before .before .before .before .before .before .node-of .result)) (c .before .before .before .before .before .before .before .before .before .before .before .before .before .before .before .before .before .node-of .ensures) (c .before .before .before .before .before .before .before .before .before .before .before .before .before .before .before .if1 .left) (c .before .before .before .before .before .before .before .before .before .before .before .before .wide .result) (c .before .before .before .before .before .before .before .before .before .before .before .before .wide .ensures) some in
+    one-evaluated asked (nodeOf (c .before .before .before .before .before .before .before .before .before .before .before .before .before .before .before .before .before .node-of .result)) (c .before .before .before .before .before .before .before .before .before .before .before .before .before .before .before .before .before .node-of .ensures)
     (s .first) (s .second) (s .rows .now) (s .tally) (c .before .before .before .before .before .before .before .before .before .before .before .before .before .before .before .if1 .left) (c .before .before .before .before .before .before .before .before .before .before .before .before .wide .result) (c .before .before .before .before .before .before .before .before .before .before .before .before .wide .ensures) (c .before .before .before .before .before .before .before .before .before .before .evaluate .result) (c .before .before .before .before .before .before .before .before .before .before .evaluate .last .1 .1 .1 .1 .1 .0) (c .before .before .before .before .before .before .before .before .before .before .evaluate .ensures (record { known = asked .known; able = able }))
     (c .before .before .before .before .before .before .x .given .0 .0) (c .before .before .before .before .before .before .x .given .0 .1 .0) (c .before .before .before .before .before .before .x .given .1) (c .before .before .before .before .before .before .before .before .before .before .evaluate .kept .1 .1 .1 .1 .1 .0) (sym counted ∙ c .before .before .before .before .if3 .taken)
     (c .before .before .apply2 .result) (c .before .before .apply2 .last .1 .1 .1 .1 .1 .0) (c .before .before .apply2 .ensures (record { known = asked .known; able = ready }))
@@ -595,15 +563,12 @@ evaluate-evaluate-requires-2 t c κs =
     let asked = c .before .before .before .before .before .before .before .before .before .before .before .before .before .before .before .before .before .pre .1 .0 in
     let few = c .before .before .before .before .before .before .before .before .before .before .before .before .before .before .before .before .before .pre .1 .1 in
     let same : length (c .before .before .before .before .before .before .before .before .evaluate .last .1 .1 .1 .1 .1 .0) ≡ length (s .rows .now) = c .before .before .before .before .before .before .before .before .evaluate .kept .1 .1 .1 .1 .1 .0 in
-    let ready = applicable (asked .known .counts) (asked .known .nodes) (asked .known .rules) (asked .known .numbers) (s .place) (s .node) (asked .known .tables .node (s .node) (asked .able .there))
-    (nodeOf (c .before .before .before .before .before .before .before .before .before .before .before .before .before .before .before .node-of .result)) (c .before .before .before .before .before .before .before .before .before .before .before .before .before .before .before .node-of .ensures ∙ asked .known .laid .node (s .node) (asked .able .there)) (asked .able) (c .before .before .before .before .before .before .before .before .before .before .before .before .before .if1 .left) in
+    let ready = applicable asked (nodeOf (c .before .before .before .before .before .before .before .before .before .before .before .before .before .before .before .node-of .result)) (c .before .before .before .before .before .before .before .before .before .before .before .before .before .before .before .node-of .ensures) (c .before .before .before .before .before .before .before .before .before .before .before .before .before .if1 .left) in
     let counted : c .before .before .before .before .before .before .before .before .before .before .before .before .operand-count .result ≡ operandCount (asked .known .counts) (nodeOf (c .before .before .before .before .before .before .before .before .before .before .before .before .before .before .before .node-of .result)) =
     c .before .before .before .before .before .before .before .before .before .before .before .before .operand-count .ensures ∙ operands-read (asked .known .laid) (nodeOf (c .before .before .before .before .before .before .before .before .before .before .before .before .before .before .before .node-of .result)) (λ other. ready .call other .procedure) in
     let two = above-one (c .before .before .before .before .before .before .before .before .before .before .before .before .operand-count .result) (operandCount (asked .known .counts) (nodeOf (c .before .before .before .before .before .before .before .before .before .before .before .before .before .before .before .node-of .result))) counted (c .before .before .before .before .before .before .before .before .before .before .before .if2 .left) (c .before .before .if3 .left) in
-    let able₂ = second-evaluable (asked .known .counts) (asked .known .nodes) (asked .known .rules) (asked .known .numbers) (s .place) (s .node) (asked .known .tables .node (s .node) (asked .able .there))
-    (nodeOf (c .before .before .before .before .before .before .before .before .before .before .before .before .before .before .before .node-of .result)) (c .before .before .before .before .before .before .before .before .before .before .before .before .before .before .before .node-of .ensures ∙ asked .known .laid .node (s .node) (asked .able .there)) (asked .able) (c .before .before .before .before .before .before .before .before .before .before .before .before .before .if1 .left) (c .before .wide2 .result) (c .before .wide2 .ensures) two in
-    let smaller = second-falls (asked .known .counts) (asked .known .nodes) (asked .known .rules) (asked .known .numbers) (s .place) (s .node) (asked .known .tables .node (s .node) (asked .able .there))
-    (nodeOf (c .before .before .before .before .before .before .before .before .before .before .before .before .before .before .before .node-of .result)) (c .before .before .before .before .before .before .before .before .before .before .before .before .before .before .before .node-of .ensures ∙ asked .known .laid .node (s .node) (asked .able .there)) (c .before .before .before .before .before .before .before .before .before .before .before .before .before .if1 .left) (c .before .wide2 .result) (c .before .wide2 .ensures) two in
+    let able₂ = second-evaluable asked (nodeOf (c .before .before .before .before .before .before .before .before .before .before .before .before .before .before .before .node-of .result)) (c .before .before .before .before .before .before .before .before .before .before .before .before .before .before .before .node-of .ensures) (c .before .before .before .before .before .before .before .before .before .before .before .before .before .if1 .left) (c .before .wide2 .result) (c .before .wide2 .ensures) two in
+    let smaller = second-falls asked (nodeOf (c .before .before .before .before .before .before .before .before .before .before .before .before .before .before .before .node-of .result)) (c .before .before .before .before .before .before .before .before .before .before .before .before .before .before .before .node-of .ensures) (c .before .before .before .before .before .before .before .before .before .before .before .before .before .if1 .left) (c .before .wide2 .result) (c .before .wide2 .ensures) two in
     (omega (arith, c .before .before .before .before .before .before .before .before .before .before .before .before .before .before .before .before .before .pre .0), (record { known = asked .known; able = able₂ }, omega arith))
 
 evaluate-enum-known-y : (t : ℕ) → evaluate-lts.Need-enum-known-y (
@@ -654,18 +619,14 @@ evaluate-returns-5 : (t : ℕ) → evaluate-lts.Need-returns-5 (
 ) (evaluate-at t) evaluate.Post
 evaluate-returns-5 t c = λ asked.
     let s = c .before .before .before .before .before .before .before .before .before .before .before .before .before .before .before .before .before .before .before .before .before .args in
-    let ready = applicable (asked .known .counts) (asked .known .nodes) (asked .known .rules) (asked .known .numbers) (s .place) (s .node) (asked .known .tables .node (s .node) (asked .able .there))
-    (nodeOf (c .before .before .before .before .before .before .before .before .before .before .before .before .before .before .before .before .before .before .before .node-of .result)) (c .before .before .before .before .before .before .before .before .before .before .before .before .before .before .before .before .before .before .before .node-of .ensures ∙ asked .known .laid .node (s .node) (asked .able .there)) (asked .able) (c .before .before .before .before .before .before .before .before .before .before .before .before .before .before .before .before .before .if1 .left) in
+    let ready = applicable asked (nodeOf (c .before .before .before .before .before .before .before .before .before .before .before .before .before .before .before .before .before .before .before .node-of .result)) (c .before .before .before .before .before .before .before .before .before .before .before .before .before .before .before .before .before .before .before .node-of .ensures) (c .before .before .before .before .before .before .before .before .before .before .before .before .before .before .before .before .before .if1 .left) in
     let counted : c .before .before .before .before .before .before .before .before .before .before .before .before .before .before .before .before .operand-count .result ≡ operandCount (asked .known .counts) (nodeOf (c .before .before .before .before .before .before .before .before .before .before .before .before .before .before .before .before .before .before .before .node-of .result)) =
     c .before .before .before .before .before .before .before .before .before .before .before .before .before .before .before .before .operand-count .ensures ∙ operands-read (asked .known .laid) (nodeOf (c .before .before .before .before .before .before .before .before .before .before .before .before .before .before .before .before .before .before .before .node-of .result)) (λ other. ready .call other .procedure) in
     let some = nonzero (c .before .before .before .before .before .before .before .before .before .before .before .before .before .before .before .before .operand-count .result) (operandCount (asked .known .counts) (nodeOf (c .before .before .before .before .before .before .before .before .before .before .before .before .before .before .before .before .before .before .before .node-of .result))) counted (c .before .before .before .before .before .before .before .before .before .before .before .before .before .before .before .if2 .left) in
-    let able = first-evaluable (asked .known .counts) (asked .known .nodes) (asked .known .rules) (asked .known .numbers) (s .place) (s .node) (asked .known .tables .node (s .node) (asked .able .there))
-    (nodeOf (c .before .before .before .before .before .before .before .before .before .before .before .before .before .before .before .before .before .before .before .node-of .result)) (c .before .before .before .before .before .before .before .before .before .before .before .before .before .before .before .before .before .before .before .node-of .ensures ∙ asked .known .laid .node (s .node) (asked .able .there)) (asked .able) (c .before .before .before .before .before .before .before .before .before .before .before .before .before .before .before .before .before .if1 .left) (c .before .before .before .before .before .before .before .before .before .before .before .before .before .before .wide .result) (c .before .before .before .before .before .before .before .before .before .before .before .before .before .before .wide .ensures) some in
+    let able = first-evaluable asked (nodeOf (c .before .before .before .before .before .before .before .before .before .before .before .before .before .before .before .before .before .before .before .node-of .result)) (c .before .before .before .before .before .before .before .before .before .before .before .before .before .before .before .before .before .before .before .node-of .ensures) (c .before .before .before .before .before .before .before .before .before .before .before .before .before .before .before .before .before .if1 .left) (c .before .before .before .before .before .before .before .before .before .before .before .before .before .before .wide .result) (c .before .before .before .before .before .before .before .before .before .before .before .before .before .before .wide .ensures) some in
     let two = above-one (c .before .before .before .before .before .before .before .before .before .before .before .before .before .before .before .before .operand-count .result) (operandCount (asked .known .counts) (nodeOf (c .before .before .before .before .before .before .before .before .before .before .before .before .before .before .before .before .before .before .before .node-of .result))) counted (c .before .before .before .before .before .before .before .before .before .before .before .before .before .before .before .if2 .left) (c .before .before .before .before .before .before .if3 .left) in
-    let able₂ = second-evaluable (asked .known .counts) (asked .known .nodes) (asked .known .rules) (asked .known .numbers) (s .place) (s .node) (asked .known .tables .node (s .node) (asked .able .there))
-    (nodeOf (c .before .before .before .before .before .before .before .before .before .before .before .before .before .before .before .before .before .before .before .node-of .result)) (c .before .before .before .before .before .before .before .before .before .before .before .before .before .before .before .before .before .before .before .node-of .ensures ∙ asked .known .laid .node (s .node) (asked .able .there)) (asked .able) (c .before .before .before .before .before .before .before .before .before .before .before .before .before .before .before .before .before .if1 .left) (c .before .before .before .before .before .wide2 .result) (c .before .before .before .before .before .wide2 .ensures) two in
-    second-stopped (asked .known .counts) (asked .known .nodes) (asked .known .rules) (asked .known .numbers) (s .place) (s .node) (asked .known .tables .node (s .node) (asked .able .there))
-    (nodeOf (c .before .before .before .before .before .before .before .before .before .before .before .before .before .before .before .before .before .before .before .node-of .result)) (c .before .before .before .before .before .before .before .before .before .before .before .before .before .before .before .before .before .before .before .node-of .ensures ∙ asked .known .laid .node (s .node) (asked .able .there))
+    let able₂ = second-evaluable asked (nodeOf (c .before .before .before .before .before .before .before .before .before .before .before .before .before .before .before .before .before .before .before .node-of .result)) (c .before .before .before .before .before .before .before .before .before .before .before .before .before .before .before .before .before .before .before .node-of .ensures) (c .before .before .before .before .before .before .before .before .before .before .before .before .before .before .before .before .before .if1 .left) (c .before .before .before .before .before .wide2 .result) (c .before .before .before .before .before .wide2 .ensures) two in
+    second-stopped asked (nodeOf (c .before .before .before .before .before .before .before .before .before .before .before .before .before .before .before .before .before .before .before .node-of .result)) (c .before .before .before .before .before .before .before .before .before .before .before .before .before .before .before .before .before .before .before .node-of .ensures)
     (s .first) (s .second) (s .rows .now) (s .tally) (c .before .before .before .before .before .before .before .before .before .before .before .before .before .before .before .before .before .if1 .left) (c .before .before .before .before .before .before .before .before .before .before .before .before .before .before .wide .result) (c .before .before .before .before .before .before .before .before .before .before .before .before .before .before .wide .ensures) (c .before .before .before .before .before .before .before .before .before .before .before .before .evaluate .result) (c .before .before .before .before .before .before .before .before .before .before .before .before .evaluate .last .1 .1 .1 .1 .1 .0) (c .before .before .before .before .before .before .before .before .before .before .before .before .evaluate .ensures (record { known = asked .known; able = able }))
     (c .before .before .before .before .before .before .before .before .x .given .0 .0) (c .before .before .before .before .before .before .before .before .x .given .0 .1 .0) (c .before .before .before .before .before .before .before .before .x .given .1) (c .before .before .before .before .before .before .before .before .before .before .before .before .evaluate .kept .1 .1 .1 .1 .1 .0) two
     (c .before .before .before .before .before .wide2 .result) (c .before .before .before .before .before .wide2 .ensures) (c .before .before .before .evaluate2 .result) (c .before .before .before .evaluate2 .last .1 .1 .1 .1 .1 .0) (c .before .before .before .evaluate2 .ensures (record { known = asked .known; able = able₂ })) (c .match2 .keys2)
@@ -690,8 +651,7 @@ evaluate-apply-requires-3 t c κs =
     let few = c .before .before .before .before .before .before .before .before .before .before .before .before .before .before .before .before .before .before .before .before .before .before .before .before .pre .1 .1 in
     let same : length (c .before .before .before .before .before .before .before .before .before .before .before .before .before .before .before .evaluate .last .1 .1 .1 .1 .1 .0) ≡ length (s .rows .now) = c .before .before .before .before .before .before .before .before .before .before .before .before .before .before .before .evaluate .kept .1 .1 .1 .1 .1 .0 in
     let same₂ : length (c .before .before .before .before .before .before .evaluate2 .last .1 .1 .1 .1 .1 .0) ≡ length (s .rows .now) = c .before .before .before .before .before .before .evaluate2 .kept .1 .1 .1 .1 .1 .0 ∙ same in
-    let ready = applicable (asked .known .counts) (asked .known .nodes) (asked .known .rules) (asked .known .numbers) (s .place) (s .node) (asked .known .tables .node (s .node) (asked .able .there))
-    (nodeOf (c .before .before .before .before .before .before .before .before .before .before .before .before .before .before .before .before .before .before .before .before .before .before .node-of .result)) (c .before .before .before .before .before .before .before .before .before .before .before .before .before .before .before .before .before .before .before .before .before .before .node-of .ensures ∙ asked .known .laid .node (s .node) (asked .able .there)) (asked .able) (c .before .before .before .before .before .before .before .before .before .before .before .before .before .before .before .before .before .before .before .before .if1 .left) in
+    let ready = applicable asked (nodeOf (c .before .before .before .before .before .before .before .before .before .before .before .before .before .before .before .before .before .before .before .before .before .before .node-of .result)) (c .before .before .before .before .before .before .before .before .before .before .before .before .before .before .before .before .before .before .before .before .before .before .node-of .ensures) (c .before .before .before .before .before .before .before .before .before .before .before .before .before .before .before .before .before .before .before .before .if1 .left) in
     (omega (arith, c .before .before .before .before .before .before .before .before .before .before .before .before .before .before .before .before .before .before .before .before .before .before .before .before .pre .0), ((record { known = asked .known; able = ready }), omega arith))
 
 evaluate-same-length-5 : (t : ℕ) → evaluate-lts.Need-same-length-5 (
@@ -726,18 +686,14 @@ evaluate-returns-6 : (t : ℕ) → evaluate-lts.Need-returns-6 (
 ) (evaluate-at t) evaluate.Post
 evaluate-returns-6 t c = λ asked.
     let s = c .before .before .before .before .before .before .before .before .before .before .before .before .before .before .before .before .before .before .before .before .before .before .before .before .before .before .before .args in
-    let ready = applicable (asked .known .counts) (asked .known .nodes) (asked .known .rules) (asked .known .numbers) (s .place) (s .node) (asked .known .tables .node (s .node) (asked .able .there))
-    (nodeOf (c .before .before .before .before .before .before .before .before .before .before .before .before .before .before .before .before .before .before .before .before .before .before .before .before .before .node-of .result)) (c .before .before .before .before .before .before .before .before .before .before .before .before .before .before .before .before .before .before .before .before .before .before .before .before .before .node-of .ensures ∙ asked .known .laid .node (s .node) (asked .able .there)) (asked .able) (c .before .before .before .before .before .before .before .before .before .before .before .before .before .before .before .before .before .before .before .before .before .before .before .if1 .left) in
+    let ready = applicable asked (nodeOf (c .before .before .before .before .before .before .before .before .before .before .before .before .before .before .before .before .before .before .before .before .before .before .before .before .before .node-of .result)) (c .before .before .before .before .before .before .before .before .before .before .before .before .before .before .before .before .before .before .before .before .before .before .before .before .before .node-of .ensures) (c .before .before .before .before .before .before .before .before .before .before .before .before .before .before .before .before .before .before .before .before .before .before .before .if1 .left) in
     let counted : c .before .before .before .before .before .before .before .before .before .before .before .before .before .before .before .before .before .before .before .before .before .before .operand-count .result ≡ operandCount (asked .known .counts) (nodeOf (c .before .before .before .before .before .before .before .before .before .before .before .before .before .before .before .before .before .before .before .before .before .before .before .before .before .node-of .result)) =
     c .before .before .before .before .before .before .before .before .before .before .before .before .before .before .before .before .before .before .before .before .before .before .operand-count .ensures ∙ operands-read (asked .known .laid) (nodeOf (c .before .before .before .before .before .before .before .before .before .before .before .before .before .before .before .before .before .before .before .before .before .before .before .before .before .node-of .result)) (λ other. ready .call other .procedure) in
     let some = nonzero (c .before .before .before .before .before .before .before .before .before .before .before .before .before .before .before .before .before .before .before .before .before .before .operand-count .result) (operandCount (asked .known .counts) (nodeOf (c .before .before .before .before .before .before .before .before .before .before .before .before .before .before .before .before .before .before .before .before .before .before .before .before .before .node-of .result))) counted (c .before .before .before .before .before .before .before .before .before .before .before .before .before .before .before .before .before .before .before .before .before .if2 .left) in
-    let able = first-evaluable (asked .known .counts) (asked .known .nodes) (asked .known .rules) (asked .known .numbers) (s .place) (s .node) (asked .known .tables .node (s .node) (asked .able .there))
-    (nodeOf (c .before .before .before .before .before .before .before .before .before .before .before .before .before .before .before .before .before .before .before .before .before .before .before .before .before .node-of .result)) (c .before .before .before .before .before .before .before .before .before .before .before .before .before .before .before .before .before .before .before .before .before .before .before .before .before .node-of .ensures ∙ asked .known .laid .node (s .node) (asked .able .there)) (asked .able) (c .before .before .before .before .before .before .before .before .before .before .before .before .before .before .before .before .before .before .before .before .before .before .before .if1 .left) (c .before .before .before .before .before .before .before .before .before .before .before .before .before .before .before .before .before .before .before .before .wide .result) (c .before .before .before .before .before .before .before .before .before .before .before .before .before .before .before .before .before .before .before .before .wide .ensures) some in
+    let able = first-evaluable asked (nodeOf (c .before .before .before .before .before .before .before .before .before .before .before .before .before .before .before .before .before .before .before .before .before .before .before .before .before .node-of .result)) (c .before .before .before .before .before .before .before .before .before .before .before .before .before .before .before .before .before .before .before .before .before .before .before .before .before .node-of .ensures) (c .before .before .before .before .before .before .before .before .before .before .before .before .before .before .before .before .before .before .before .before .before .before .before .if1 .left) (c .before .before .before .before .before .before .before .before .before .before .before .before .before .before .before .before .before .before .before .before .wide .result) (c .before .before .before .before .before .before .before .before .before .before .before .before .before .before .before .before .before .before .before .before .wide .ensures) some in
     let two = above-one (c .before .before .before .before .before .before .before .before .before .before .before .before .before .before .before .before .before .before .before .before .before .before .operand-count .result) (operandCount (asked .known .counts) (nodeOf (c .before .before .before .before .before .before .before .before .before .before .before .before .before .before .before .before .before .before .before .before .before .before .before .before .before .node-of .result))) counted (c .before .before .before .before .before .before .before .before .before .before .before .before .before .before .before .before .before .before .before .before .before .if2 .left) (c .before .before .before .before .before .before .before .before .before .before .before .before .if3 .left) in
-    let able₂ = second-evaluable (asked .known .counts) (asked .known .nodes) (asked .known .rules) (asked .known .numbers) (s .place) (s .node) (asked .known .tables .node (s .node) (asked .able .there))
-    (nodeOf (c .before .before .before .before .before .before .before .before .before .before .before .before .before .before .before .before .before .before .before .before .before .before .before .before .before .node-of .result)) (c .before .before .before .before .before .before .before .before .before .before .before .before .before .before .before .before .before .before .before .before .before .before .before .before .before .node-of .ensures ∙ asked .known .laid .node (s .node) (asked .able .there)) (asked .able) (c .before .before .before .before .before .before .before .before .before .before .before .before .before .before .before .before .before .before .before .before .before .before .before .if1 .left) (c .before .before .before .before .before .before .before .before .before .before .before .wide2 .result) (c .before .before .before .before .before .before .before .before .before .before .before .wide2 .ensures) two in
-    two-evaluated (asked .known .counts) (asked .known .nodes) (asked .known .rules) (asked .known .numbers) (s .place) (s .node) (asked .known .tables .node (s .node) (asked .able .there))
-    (nodeOf (c .before .before .before .before .before .before .before .before .before .before .before .before .before .before .before .before .before .before .before .before .before .before .before .before .before .node-of .result)) (c .before .before .before .before .before .before .before .before .before .before .before .before .before .before .before .before .before .before .before .before .before .before .before .before .before .node-of .ensures ∙ asked .known .laid .node (s .node) (asked .able .there))
+    let able₂ = second-evaluable asked (nodeOf (c .before .before .before .before .before .before .before .before .before .before .before .before .before .before .before .before .before .before .before .before .before .before .before .before .before .node-of .result)) (c .before .before .before .before .before .before .before .before .before .before .before .before .before .before .before .before .before .before .before .before .before .before .before .before .before .node-of .ensures) (c .before .before .before .before .before .before .before .before .before .before .before .before .before .before .before .before .before .before .before .before .before .before .before .if1 .left) (c .before .before .before .before .before .before .before .before .before .before .before .wide2 .result) (c .before .before .before .before .before .before .before .before .before .before .before .wide2 .ensures) two in
+    two-evaluated asked (nodeOf (c .before .before .before .before .before .before .before .before .before .before .before .before .before .before .before .before .before .before .before .before .before .before .before .before .before .node-of .result)) (c .before .before .before .before .before .before .before .before .before .before .before .before .before .before .before .before .before .before .before .before .before .before .before .before .before .node-of .ensures)
     (s .first) (s .second) (s .rows .now) (s .tally) (c .before .before .before .before .before .before .before .before .before .before .before .before .before .before .before .before .before .before .before .before .before .before .before .if1 .left) (c .before .before .before .before .before .before .before .before .before .before .before .before .before .before .before .before .before .before .before .before .wide .result) (c .before .before .before .before .before .before .before .before .before .before .before .before .before .before .before .before .before .before .before .before .wide .ensures) (c .before .before .before .before .before .before .before .before .before .before .before .before .before .before .before .before .before .before .evaluate .result) (c .before .before .before .before .before .before .before .before .before .before .before .before .before .before .before .before .before .before .evaluate .last .1 .1 .1 .1 .1 .0) (c .before .before .before .before .before .before .before .before .before .before .before .before .before .before .before .before .before .before .evaluate .ensures (record { known = asked .known; able = able }))
     (c .before .before .before .before .before .before .before .before .before .before .before .before .before .before .x .given .0 .0) (c .before .before .before .before .before .before .before .before .before .before .before .before .before .before .x .given .0 .1 .0) (c .before .before .before .before .before .before .before .before .before .before .before .before .before .before .x .given .1) (c .before .before .before .before .before .before .before .before .before .before .before .before .before .before .before .before .before .before .evaluate .kept .1 .1 .1 .1 .1 .0) two
     (c .before .before .before .before .before .before .before .before .before .before .before .wide2 .result) (c .before .before .before .before .before .before .before .before .before .before .before .wide2 .ensures) (c .before .before .before .before .before .before .before .before .before .evaluate2 .result) (c .before .before .before .before .before .before .before .before .before .evaluate2 .last .1 .1 .1 .1 .1 .0) (c .before .before .before .before .before .before .before .before .before .evaluate2 .ensures (record { known = asked .known; able = able₂ }))

@@ -1,0 +1,2 @@
+-- What the tests of a kind are promised to be.
+pub mod Marked

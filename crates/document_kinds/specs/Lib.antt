@@ -1,0 +1,2 @@
+-- Kinds kept for the places of a document.
+pub mod Stored

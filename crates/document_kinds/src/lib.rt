@@ -1,0 +1,150 @@
+// The kind of a document: the kinds of the trees that start at each of its places, from the last place to the first, without
+// recursion.
+ghost use mathlib.Core.Path.{_≡_};
+ghost use Prim.Native.Nat.{ℕ, _+_, _*_, _<_, _≤_};
+ghost use lib.ListN.{length, getD, replicate};
+ghost use Rattle.model.specs.Documents.{mostNumbers};
+ghost use Rattle.model.proofs.Laws.Documents.{Readable, treeFrom};
+ghost use Rattle.kind_words.specs.Fits.{Ready};
+ghost use Rattle.lanes.specs.Layouts.{layoutOf};
+ghost use Rattle.kinds.specs.Promises.{IsEmptyKind};
+ghost use Rattle.reading.specs.Ends.{EndsFrom};
+ghost use Rattle.document_kinds.specs.Stored.{kindAt, putKind, IsKindOf, StoredFrom, Symbols};
+use kinds::empty_kind;
+use kinds::next_kind;
+use lanes::Layout;
+use reading::right_child;
+use reading::tree_ends;
+use tables::Symbol;
+
+// Room for a kind at each place.
+fn no_kinds() -> [u64; 6138]
+    ensures { λ r. ⌜ r ≡ replicate 6138 0 ⌝ }
+{
+    [0u64; 6138]
+}
+
+// The kind that is kept for a place.
+fn kind_at(kinds: &[u64; 6138], place: usize) -> [u64; 6]
+    requires { ⌜ place < mostNumbers ⌝ }
+    ensures { λ r. ⌜ r ≡ kindAt (now (kinds .entry)) place ⌝ }
+{
+    let at = 6 * place;
+    [
+        kinds[at],
+        kinds[at + 1],
+        kinds[at + 2],
+        kinds[at + 3],
+        kinds[at + 4],
+        kinds[at + 5],
+    ]
+}
+
+// Keeps the kind of a place.
+fn put_kind(kinds: &mut [u64; 6138], place: usize, kind: &[u64; 6])
+    requires { ⌜ place < mostNumbers ⌝ }
+    ensures { λ _. ⌜ now (kinds .exit) ≡ putKind (now (kinds .entry)) place (now (kind .entry)) ⌝ }
+{
+    let at = 6 * place;
+    kinds[at] = kind[0];
+    kinds[at + 1] = kind[1];
+    kinds[at + 2] = kind[2];
+    kinds[at + 3] = kind[3];
+    kinds[at + 4] = kind[4];
+    kinds[at + 5] = kind[5];
+}
+
+// The kind of the tree that starts at place i, from the kinds of the trees at later places.
+fn kind_of_place(
+    layout: Layout,
+    offsets: &[u16; 16],
+    reached: &[u16; 4096],
+    lengths: &[u16; 16],
+    counts: &[u16],
+    rows: &[u16],
+    table: &[u16],
+    nodes: &[u16],
+    rules: &[u16],
+    numbers: &[u16],
+    ends: &[u16; 1023],
+    kinds: &[u64; 6138],
+    empty: [u64; 6],
+    i: usize,
+) -> [u64; 6]
+    requires { ⌜ Ready (layoutOf layout) (now offsets) (now reached) (now lengths) (now counts) (now rows) (now table) (now nodes) (now rules) × Readable (now numbers) × (length (now numbers) ≤ mostNumbers) × Symbols (now numbers) × (i < length (now numbers)) × EndsFrom 0 (now numbers) (now ends) × IsEmptyKind (layoutOf layout) (now offsets) (now reached) (now lengths) (now counts) (now rows) (now table) (now nodes) (now rules) empty × StoredFrom (layoutOf layout) (now offsets) (now reached) (now lengths) (now counts) (now rows) (now table) (now nodes) (now rules) (i + 1) (now numbers) (now kinds) ⌝ }
+    ensures { λ r. ⌜ IsKindOf (layoutOf layout) (now (offsets .entry)) (now (reached .entry)) (now (lengths .entry)) (now (counts .entry)) (now (rows .entry)) (now (table .entry)) (now (nodes .entry)) (now (rules .entry)) (treeFrom (now (numbers .entry)) i) r ⌝ }
+{
+    let symbol = Symbol(numbers[i]);
+    if symbol.0 == 0 {
+        return empty;
+    }
+    let left = kind_at(kinds, i + 1);
+    let right = kind_at(kinds, right_child(ends, i));
+    next_kind(
+        layout,
+        offsets,
+        reached,
+        lengths,
+        counts,
+        rows,
+        table,
+        nodes,
+        rules,
+        symbol,
+        &left,
+        &right,
+    )
+}
+
+// The kind of a document's tree.
+pub fn document_kind(
+    layout: Layout,
+    offsets: &[u16; 16],
+    reached: &[u16; 4096],
+    lengths: &[u16; 16],
+    counts: &[u16],
+    rows: &[u16],
+    table: &[u16],
+    nodes: &[u16],
+    rules: &[u16],
+    numbers: &[u16],
+) -> [u64; 6]
+    requires { ⌜ Ready (layoutOf layout) (now offsets) (now reached) (now lengths) (now counts) (now rows) (now table) (now nodes) (now rules) × Readable (now numbers) × (1 ≤ length (now numbers)) × (length (now numbers) ≤ mostNumbers) × Symbols (now numbers) ⌝ }
+    ensures { λ r. ⌜ IsKindOf (layoutOf layout) (now (offsets .entry)) (now (reached .entry)) (now (lengths .entry)) (now (counts .entry)) (now (rows .entry)) (now (table .entry)) (now (nodes .entry)) (now (rules .entry)) (treeFrom (now (numbers .entry)) 0) r ⌝ }
+{
+    let ends = tree_ends(numbers);
+    let empty = empty_kind(
+        layout,
+        offsets,
+        reached,
+        lengths,
+        counts,
+        rows,
+        table,
+        nodes,
+        rules,
+    );
+    let mut kinds = no_kinds();
+    let mut i = numbers.len();
+    while 0 < i {
+        i -= 1;
+        let kind = kind_of_place(
+            layout,
+            offsets,
+            reached,
+            lengths,
+            counts,
+            rows,
+            table,
+            nodes,
+            rules,
+            numbers,
+            &ends,
+            &kinds,
+            empty,
+            i,
+        );
+        put_kind(&mut kinds, i, &kind);
+    }
+    kind_at(&kinds, 0)
+}

@@ -1,0 +1,2 @@
+-- What judging comes to, step by step.
+pub mod Steps
