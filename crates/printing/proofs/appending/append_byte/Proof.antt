@@ -1,0 +1,25 @@
+-- `append_byte` meets its contract: behind the end a store changes nothing.
+use mathlib.Core.Path.{sym}
+use native.Mathlib.Omega.{arith}
+use lib.Seq.{set-out}
+use borrow.Author.Needs.{needs}
+use Rattle.printing.proofs.appending.append_byte.Statement.{statement}
+use Rattle.printing.proofs.appending.append_byte.Tie as tie
+
+slice-write-out : tie.Need-slice-write-out
+slice-write-out c = search needs
+
+add-result : tie.Need-add-result
+add-result c = search needs
+
+same-length : tie.Need-same-length
+same-length c = search needs
+
+returns : tie.Need-returns
+returns c = search needs
+
+returns-2 : tie.Need-returns-2
+returns-2 c = (omega arith, sym (set-out _ _ _ (omega arith)))
+
+pub append-byte-spec : {M : Type 1} → statement M
+append-byte-spec = tie.close (tie.spec slice-write-out add-result same-length returns returns-2)

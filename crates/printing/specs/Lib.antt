@@ -1,0 +1,3 @@
+-- What printed text is.
+pub mod Decimals
+pub mod Appending
