@@ -1,0 +1,13 @@
+-- Room in the buffers between two rounds.
+use mathlib.Core.List.{List}
+use Prim.Native.Nat.{ℕ}
+use native.Mathlib.Omega.{arith}
+use Rattle.model.specs.Tables.{Contract}
+use Rattle.kind_lists.specs.Listing.{Room}
+use Rattle.kind_lists.specs.Between.{Between}
+
+pub between-room : {C : Contract} {limit before stood : ℕ} {lefts rights rows words : List ℕ} → Between C limit before stood lefts rights rows words
+    → Room limit stood rows words
+between-room b =
+    let h = b .holds in
+    record { few = h .few; used = omega (arith, h .fits, b .stands); rowRoom = h .rowRoom; wordRoom = h .wordRoom }

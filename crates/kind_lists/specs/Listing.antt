@@ -1,0 +1,87 @@
+-- The list of kinds in the lent buffers: where a kind stands in it, and what becomes of a kind that is offered to it.
+use mathlib.Core.Bool.{Bool, true, false, not, _&&_}
+use mathlib.Core.List.{List, [], _∷_, _++_}
+use mathlib.Core.Path.{_≡_}
+use Prim.Native.Nat.{ℕ, _+_, _*_, _≤_}
+use lib.Bits.{bitAnd}
+use lib.Dec.{eqb, ltb}
+use lib.ListN.{getD, length, take, set}
+use Rattle.foundation.specs.Tests.{choose}
+use Rattle.foundation.specs.Search.{first}
+use Rattle.foundation.specs.Lists.{zeroFilled}
+use Rattle.kind_lists.specs.declared.listing.Found.{Found}
+use Rattle.kind_lists.specs.declared.listing.Found.the-variants as found
+use Rattle.kind_lists.specs.declared.listing.Offered.{Offered}
+use Rattle.kind_lists.specs.declared.listing.Offered.the-variants as offered
+
+-- row j of the words is this kind
+unfoldable pub sameKind : List ℕ → ℕ → List ℕ → Bool
+sameKind words j kind =
+    (((eqb (getD words (5 * j) 0) (getD kind 0 0) && eqb (getD words (5 * j + 1) 0) (getD kind 1 0)) && eqb (getD words (5 * j + 2) 0) (getD kind 2 0)) && eqb (getD words (5 * j + 3) 0) (getD kind 3 0))
+    && eqb (getD words (5 * j + 4) 0) (getD kind 4 0)
+
+-- the first of n rows that is this kind, or n
+unfoldable pub kindPlace : List ℕ → ℕ → List ℕ → ℕ
+kindPlace words n kind = first (λ j. sameKind words j kind) n
+
+abbrev pub foundAt : ℕ → ℕ → Found
+foundAt n j = choose (ltb j n) (found.At j) found.Nowhere
+
+abbrev pub wasFound : Found → Bool
+wasFound (found.At j) = true
+wasFound found.Nowhere = false
+
+-- "a kind not yet listed"
+abbrev pub kindListed : List ℕ → ℕ → List ℕ → Bool
+kindListed words n kind = ltb (kindPlace words n kind) n
+
+-- row j of the words, and of the rows, replaced
+abbrev pub withKind : List ℕ → ℕ → List ℕ → List ℕ
+withKind words j kind =
+    set (set (set (set (set words (5 * j) (getD kind 0 0)) (5 * j + 1) (getD kind 1 0)) (5 * j + 2) (getD kind 2 0)) (5 * j + 3) (getD kind 3 0)) (5 * j + 4)
+    (getD kind 4 0)
+
+abbrev pub withRow : List ℕ → (j symbol left right : ℕ) → List ℕ
+withRow rows j symbol left right = set (set (set rows (3 * j) symbol) (3 * j + 1) left) (3 * j + 2) right
+
+-- the kind of row j, with a sixth word 0
+abbrev pub paddedKind : List ℕ → ℕ → List ℕ
+paddedKind words j =
+    getD words (5 * j) 0 ∷ getD words (5 * j + 1) 0 ∷ getD words (5 * j + 2) 0 ∷ getD words (5 * j + 3) 0 ∷ getD words (5 * j + 4) 0 ∷ 0 ∷ []
+
+-- some accepted input state is in the kind, and some output state of procedure 0 that is not accepted
+abbrev pub breaking : (accepted refused : ℕ) → List ℕ → Bool
+breaking accepted refused kind = not (eqb (bitAnd (getD kind 0 0) accepted) 0) && not (eqb (bitAnd (getD kind 1 0) refused) 0)
+
+-- n numbers that stand, and zeros
+abbrev pub clearedFrom : List ℕ → ℕ → List ℕ
+clearedFrom l n = zeroFilled (length l) (take n l)
+
+-- buffers for `limit` rows, of which n are in use
+pub record Room (limit n : ℕ) (rows words : List ℕ) : Type 0 where
+  pub few : limit ≤ 512
+  pub used : n ≤ limit
+  pub rowRoom : length rows ≡ 3 * limit
+  pub wordRoom : length words ≡ 5 * limit
+
+pub record Offering : Type 0 where
+  pub answer : Offered
+  pub rows : List ℕ
+  pub words : List ℕ
+
+-- an answer and closing buffers are as told
+pub record Becomes (told : Offering) (r : Offered) (rowsAfter wordsAfter : List ℕ) : Type 0 where
+  pub answer : r ≡ told .answer
+  pub rows : rowsAfter ≡ told .rows
+  pub words : wordsAfter ≡ told .words
+
+-- a kind with its row is offered to a list of n rows
+unfoldable pub offering : (accepted refused limit n symbol left right : ℕ) → (kind rows words : List ℕ) → Offering
+offering accepted refused limit n symbol left right kind rows words =
+    choose (kindListed words n kind) (record { answer = offered.Old; rows = rows; words = words })
+    (choose (eqb n limit) (record { answer = offered.Full; rows = rows; words = words })
+    (record {
+      answer = choose (breaking accepted refused kind) offered.Breaks offered.New;
+      rows = withRow rows n symbol left right;
+      words = withKind words n kind;
+    }))

@@ -1,0 +1,67 @@
+-- Marks of rows: a row that is not marked for a symbol agrees with an earlier row on what the symbol's mask shows.
+use mathlib.Core.Path.{_≡_, refl, ap, sym, _∙_}
+use mathlib.Core.List.{List, [], _∷_}
+use mathlib.Core.Bool.{Bool, true, false, _&&_}
+use Prim.Native.Nat.{ℕ, zero, suc, _+_, _*_, _≤_, _<_}
+use native.Mathlib.Omega.{arith}
+use borrow.Author.Tests.{eqb-true}
+use lib.Bits.{bitAnd}
+use lib.Dec.{eqb}
+use lib.ListN.{length, getD}
+use Rattle.foundation.specs.Words.{bit}
+use Rattle.model.specs.Tables.{Contract}
+use Rattle.model.specs.Facts.{onSide}
+use Rattle.classes.specs.Masks.{AgreeUnder, Covers}
+use Rattle.kind_lists.specs.Listing.{paddedKind}
+use Rattle.kind_lists.specs.Held.{kindIn, all-five}
+
+-- the mask of symbol s: five words a symbol
+abbrev pub maskIn : List ℕ → ℕ → List ℕ
+maskIn masks s =
+    getD masks (5 * s) 0 ∷ getD masks (5 * s + 1) 0 ∷ getD masks (5 * s + 2) 0 ∷ getD masks (5 * s + 3) 0 ∷ getD masks (5 * s + 4) 0 ∷ []
+
+-- row i agrees with a kind on what the mask of symbol s shows
+unfoldable pub agreesUnder : List ℕ → ℕ → List ℕ → List ℕ → ℕ → Bool
+agreesUnder words i kind masks s =
+    (((eqb (bitAnd (getD words (5 * i) 0) (getD masks (5 * s) 0)) (bitAnd (getD kind 0 0) (getD masks (5 * s) 0))
+    && eqb (bitAnd (getD words (5 * i + 1) 0) (getD masks (5 * s + 1) 0)) (bitAnd (getD kind 1 0) (getD masks (5 * s + 1) 0)))
+    && eqb (bitAnd (getD words (5 * i + 2) 0) (getD masks (5 * s + 2) 0)) (bitAnd (getD kind 2 0) (getD masks (5 * s + 2) 0)))
+    && eqb (bitAnd (getD words (5 * i + 3) 0) (getD masks (5 * s + 3) 0)) (bitAnd (getD kind 3 0) (getD masks (5 * s + 3) 0)))
+    && eqb (bitAnd (getD words (5 * i + 4) 0) (getD masks (5 * s + 4) 0)) (bitAnd (getD kind 4 0) (getD masks (5 * s + 4) 0))
+
+pub agrees-under : (words : List ℕ) (i j : ℕ) (masks : List ℕ) (s : ℕ) → agreesUnder words i (paddedKind words j) masks s ≡ true
+    → AgreeUnder (maskIn masks s) (kindIn words j) (kindIn words i)
+unfolding agreesUnder
+agrees-under words i j masks s t =
+    let (h0, h1, h2, h3, h4) = all-five _ _ _ _ _ t in
+    record { words = go (eqb-true _ _ h0) (eqb-true _ _ h1) (eqb-true _ _ h2) (eqb-true _ _ h3) (eqb-true _ _ h4) }
+  where
+    Same : ℕ → Type 0
+    Same w = bitAnd (getD (kindIn words i) w 0) (getD (maskIn masks s) w 0) ≡ bitAnd (getD (kindIn words j) w 0) (getD (maskIn masks s) w 0)
+
+    go : Same 0 → Same 1 → Same 2 → Same 3 → Same 4 → (w : ℕ) → w < 5
+        → bitAnd (getD (kindIn words j) w 0) (getD (maskIn masks s) w 0) ≡ bitAnd (getD (kindIn words i) w 0) (getD (maskIn masks s) w 0)
+    go h0 h1 h2 h3 h4 zero l = sym h0
+    go h0 h1 h2 h3 h4 (suc zero) l = sym h1
+    go h0 h1 h2 h3 h4 (suc (suc zero)) l = sym h2
+    go h0 h1 h2 h3 h4 (suc (suc (suc zero))) l = sym h3
+    go h0 h1 h2 h3 h4 (suc (suc (suc (suc zero)))) l = sym h4
+    go h0 h1 h2 h3 h4 (suc (suc (suc (suc (suc w))))) l = absurd (omega arith)
+
+-- some earlier row agrees with row j for symbol s
+abbrev pub SomeEarlier : (words masks : List ℕ) (s j : ℕ) → Type 0
+SomeEarlier words masks s j = (i : ℕ) × (i < j) × (agreesUnder words i (paddedKind words j) masks s ≡ true)
+
+-- a word of marks of row j: a missing mark means an earlier row that agrees
+pub record MarksOf (words masks : List ℕ) (symbols j w : ℕ) : Type 0 where
+  pub unmarked : (s : ℕ) → 1 ≤ s → s < symbols → bit w s ≡ false → SomeEarlier words masks s j
+
+-- the rows from `before` to `stood` are marked, the earlier ones as before
+pub record MarkedFrom (words masks : List ℕ) (symbols before stood : ℕ) (firsts marked : List ℕ) : Type 0 where
+  pub long : length marked ≡ length firsts
+  pub kept : (j : ℕ) → j < before → getD marked j 0 ≡ getD firsts j 0
+  pub marks : (j : ℕ) → before ≤ j → j < stood → MarksOf words masks symbols j (getD marked j 0)
+
+-- the masks of all symbols show what the symbols can see
+pub record Covered (C : Contract) (leftMasks rightMasks : List ℕ) : Type 0 where
+  pub covers : (s : ℕ) → 1 ≤ s → s < C .transformation .symbols → Covers C s (onSide (maskIn leftMasks s) (maskIn rightMasks s))

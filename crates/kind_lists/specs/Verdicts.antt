@@ -1,0 +1,79 @@
+-- What tells a breaking kind: a word of the input states that are accepted, and one of the output states that are not.
+use mathlib.Core.Path.{_≡_, refl, ap, ap₂, subst, sym, _∙_}
+use mathlib.Core.List.{List, [], _∷_, _++_}
+use mathlib.Core.Bool.{Bool, true, false, not, _&&_}
+use Prim.Native.Nat.{ℕ, zero, suc, _+_, _*_, _/_, _%_, _^_, _≤_, _<_}
+use native.Mathlib.Nat.{pow-zero, lt-of-le-of-lt}
+use native.Mathlib.Omega.{arith}
+use borrow.Author.Tests.{eq-eqb, ne-eqb}
+use lib.Bits.{bitAnd, and-le-r}
+use lib.Dec.{T, eqb}
+use lib.ListN.{length, getD}
+use Rattle.foundation.specs.Tests.{_and_, same, someBelow, some-intro, some-elim, some-cong, and-left, and-right, and-both, test-true, true-test, test-false, false-test}
+use Rattle.foundation.specs.Words.{bit, word, bit-word, word-lt}
+use Rattle.foundation.specs.Bits.{bit-and, bit-zero, zero-bits}
+use Rattle.model.specs.Tables.{Contract, markAt, countOf}
+use Rattle.model.specs.Facts.{offset, code, factNumber}
+use Rattle.model.specs.Kinds.{stateIn, bitOfFact, factsIn, ofInputType, hasWrongOutput, breaks}
+use Rattle.model.proofs.Laws.Established.{Established}
+use Rattle.kind_lists.specs.Listing.{breaking}
+use Rattle.kind_lists.specs.Held.{front}
+
+-- a word has a bit that a word of tests has
+pub some-bit : (x n : ℕ) (f : ℕ → Bool) → not (eqb (bitAnd x (word n f)) 0) ≡ someBelow n (λ q. f q and bit x q)
+some-bit x n f = go (someBelow n (λ q. f q and bit x q)) refl
+  where
+    at : (q : ℕ) → q < n → bit (bitAnd x (word n f)) q ≡ (bit x q and f q)
+    at q h = bit-and x (word n f) q ∙ ap (λ (b : Bool). bit x q and b) (bit-word n f q h)
+
+    go : (b : Bool) → someBelow n (λ q. f q and bit x q) ≡ b → not (eqb (bitAnd x (word n f)) 0) ≡ someBelow n (λ q. f q and bit x q)
+    go true e =
+        let (q, l, t) = some-elim n (λ q. f q and bit x q) (true-test _ e) in
+        let one : bit (bitAnd x (word n f)) q ≡ true = at q l ∙ test-true _ (and-both _ _ (and-right _ _ t) (and-left _ _ t)) in
+        rw (e, ne-eqb (bitAnd x (word n f)) 0 (λ z. false-test _ (ap (λ (w : ℕ). bit w q) z ∙ bit-zero q) (true-test _ one)))
+    go false e =
+        let none : (q : ℕ) → q < n → bit (bitAnd x (word n f)) q ≡ false =
+        λ q l. at q l ∙ test-false _ (λ t. false-test _ e (some-intro n (λ q. f q and bit x q) q l (and-both _ _ (and-right _ _ t) (and-left _ _ t)))) in
+        rw (e, eq-eqb (bitAnd x (word n f)) 0 (zero-bits n (bitAnd x (word n f)) (lt-of-le-of-lt (and-le-r x (word n f)) (word-lt n f)) none))
+
+-- the verdict words of a contract
+pub record VerdictsFor (C : Contract) (accepted refused : ℕ) : Type 0 where
+  pub accepts : accepted ≡ word (C .input .states) (λ q. same (markAt (C .input .marks) q) 1)
+  pub refuses : refused ≡ word (C .output .states) (λ q. same (markAt (C .output .marks) q) 0)
+
+and-is : (a b : Bool) → (a && b) ≡ (a and b)
+unfolding _and_
+and-is true b = refl
+and-is false b = refl
+
+module _ (C : Contract) (known : Established C) where
+  -- the facts of procedure 0, which has no parameters, are the first ones
+  offset-start : (counts : List ℕ) → offset (C .output .states) counts 0 ≡ 0
+  unfolding offset
+  offset-start [] = refl
+  offset-start (k ∷ counts) = refl
+
+  start-number : (q : ℕ) → factNumber (C .output .states) (C .transformation .counts) 0 q [] ≡ q
+  unfolding factNumber code
+  start-number q =
+      let z = known .start in
+      rw (offset-start (C .transformation .counts), z, pow-zero) (omega arith)
+
+  start-fact : (kind : List ℕ) (q : ℕ) → q < C .output .states → factsIn C kind 0 q [] ≡ bit (getD kind 1 0) q
+  unfolding factsIn bitOfFact
+  start-fact kind q h =
+      let few = known .outputStates .≤most in
+      let d : q / 64 ≡ 0 = omega arith in
+      let m : q % 64 ≡ q = omega arith in
+      rw (start-number q, d, m)
+
+  -- "A kind breaks the contract if .."
+  pub breaking-is : (accepted refused : ℕ) → VerdictsFor C accepted refused → (kind : List ℕ) → length kind ≡ 5
+      → breaking accepted refused (kind ++ (0 ∷ [])) ≡ breaks C kind
+  unfolding breaks ofInputType hasWrongOutput stateIn
+  breaking-is accepted refused v kind e =
+      rw (front kind e 0 (omega arith), front kind e 1 (omega arith), v .accepts, v .refuses)
+      (ap₂ _&&_ (some-bit (getD kind 0 0) (C .input .states) (λ q. same (markAt (C .input .marks) q) 1))
+      (some-bit (getD kind 1 0) (C .output .states) (λ q. same (markAt (C .output .marks) q) 0)
+      ∙ some-cong (C .output .states) _ _ (λ q h. ap (λ (b : Bool). same (markAt (C .output .marks) q) 0 and b) (sym (start-fact kind q h))))
+      ∙ and-is _ _)

@@ -1,0 +1,127 @@
+// Classes of rows: for a symbol, a row matters on a side only through what the symbol's mask shows of its kind. A row is
+// marked for a symbol where it is the first of its class.
+ghost use mathlib.Core.Path.{_≡_};
+ghost use mathlib.Core.Bool.{false, _&&_};
+ghost use Prim.Native.Nat.{ℕ, _+_, _*_, _^_, _<_, _≤_};
+ghost use lib.ListN.{getD, length};
+ghost use Rattle.foundation.specs.Tests.{choose};
+ghost use Rattle.foundation.specs.Words.{bit};
+ghost use Rattle.kind_lists.specs.Listing.{paddedKind};
+ghost use Rattle.kind_lists.specs.Marks.{agreesUnder, SomeEarlier, MarksOf, MarkedFrom};
+use crate::listing::kind_at;
+
+// Whether row i agrees with a kind on what the symbol's mask shows.
+pub fn agrees(words: &[u64], i: usize, kind: &[u64; 6], masks: &[u64; 80], symbol: usize) -> bool
+    requires { ⌜ (5 * i + 5 ≤ length (now words)) × (symbol < 16) ⌝ }
+    ensures { λ r. ⌜ r ≡ agreesUnder (now (words .entry)) i (now (kind .entry)) (now (masks .entry)) symbol ⌝ }
+{
+    let m0 = masks[5 * symbol];
+    let m1 = masks[5 * symbol + 1];
+    let m2 = masks[5 * symbol + 2];
+    let m3 = masks[5 * symbol + 3];
+    let m4 = masks[5 * symbol + 4];
+    (((((words[5 * i] & m0) == (kind[0] & m0)) & ((words[5 * i + 1] & m1) == (kind[1] & m1)))
+        & ((words[5 * i + 2] & m2) == (kind[2] & m2)))
+        & ((words[5 * i + 3] & m3) == (kind[3] & m3)))
+        & ((words[5 * i + 4] & m4) == (kind[4] & m4))
+}
+
+// Whether row i is a marked row that agrees with the kind.
+pub fn in_class(
+    words: &[u64],
+    i: usize,
+    kind: &[u64; 6],
+    masks: &[u64; 80],
+    firsts: &[u16; 512],
+    symbol: usize,
+) -> bool
+    requires { ⌜ (5 * i + 5 ≤ length (now words)) × (symbol < 16) × (i < 512) ⌝ }
+    ensures { λ r. ⌜ r ≡ (bit (getD (now (firsts .entry)) i 0) symbol && agreesUnder (now (words .entry)) i (now (kind .entry)) (now (masks .entry)) symbol) ⌝ }
+{
+    if (firsts[i] >> symbol as u16) % 2 == 1 {
+        return agrees(words, i, kind, masks, symbol);
+    }
+    false
+}
+
+// Whether row j, which has this kind, is the first of its class for the symbol.
+pub fn is_first(
+    words: &[u64],
+    j: usize,
+    kind: &[u64; 6],
+    masks: &[u64; 80],
+    firsts: &[u16; 512],
+    symbol: usize,
+) -> bool
+    requires { ⌜ (5 * j ≤ length (now words)) × (symbol < 16) × (j ≤ 512) × (now kind ≡ paddedKind (now words) j) ⌝ }
+    ensures { λ r. ⌜ (r ≡ false → SomeEarlier (now (words .entry)) (now (masks .entry)) symbol j) ⌝ }
+{
+    let mut i: usize = 0;
+    while i < j {
+        if in_class(words, i, kind, masks, firsts, symbol) {
+            return false;
+        }
+        i += 1;
+    }
+    true
+}
+
+// A word put some bits up, where it fits.
+fn up(word: u16, place: u16) -> u16
+    requires { ⌜ (place < 16) × (word * 2 ^ place < 2 ^ 16) ⌝ }
+    ensures { λ r. ⌜ r ≡ word * 2 ^ place ⌝ }
+{
+    word << place
+}
+
+// A symbol's bit, or nothing.
+fn bit_if(test: bool, symbol: usize) -> u16
+    requires { ⌜ symbol < 16 ⌝ }
+    ensures { λ r. ⌜ r ≡ choose test (2 ^ symbol) 0 ⌝ }
+{
+    if test {
+        return up(1, symbol as u16);
+    }
+    0
+}
+
+// The symbols for which row j is the first of its class, a bit each.
+pub fn first_symbols(
+    words: &[u64],
+    masks: &[u64; 80],
+    firsts: &[u16; 512],
+    symbols: usize,
+    j: usize,
+) -> u16
+    requires { ⌜ (5 * j + 5 ≤ length (now words)) × (symbols ≤ 16) × (j < 512) ⌝ }
+    ensures { λ r. ⌜ MarksOf (now (words .entry)) (now (masks .entry)) symbols j r ⌝ }
+{
+    let kind = kind_at(words, j);
+    let mut marks: u16 = 0;
+    let mut symbol: usize = 1;
+    while symbol < symbols {
+        marks = marks | bit_if(is_first(words, j, &kind, masks, firsts, symbol), symbol);
+        symbol += 1;
+    }
+    marks
+}
+
+// Marks the rows from `before` to `stood`.
+pub fn mark_rows(
+    words: &[u64],
+    masks: &[u64; 80],
+    firsts: &mut [u16; 512],
+    symbols: usize,
+    before: usize,
+    stood: usize,
+)
+    requires { ⌜ (5 * stood ≤ length (now words)) × (symbols ≤ 16) × (stood ≤ 512) × (length (now firsts) ≡ 512) ⌝ }
+    ensures { λ _. ⌜ MarkedFrom (now (words .entry)) (now (masks .entry)) symbols before stood (now (firsts .entry)) (now (firsts .exit)) ⌝ }
+{
+    let mut j: usize = before;
+    while j < stood {
+        let marks = first_symbols(words, masks, firsts, symbols, j);
+        firsts[j] = marks;
+        j += 1;
+    }
+}
