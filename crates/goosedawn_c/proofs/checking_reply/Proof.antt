@@ -1,0 +1,69 @@
+-- Case by case: what the answer is known to be, and the reply made of its values.
+use borrow.Author.Needs.{needs}
+use Rattle.goosedawn_c.proofs.checking_reply.Statement.{statement}
+use Rattle.goosedawn_c.proofs.checking_reply.Tie as tie
+
+enum-known-answer : tie.Need-enum-known-answer
+enum-known-answer c = search needs
+
+contract-reply-requires : tie.Need-contract-reply-requires
+contract-reply-requires c κs = search needs
+
+enum-known-answer-2 : tie.Need-enum-known-answer-2
+enum-known-answer-2 c = search needs
+
+refused-requires : tie.Need-refused-requires
+refused-requires c κs = search needs
+
+enum-known-answer-3 : tie.Need-enum-known-answer-3
+enum-known-answer-3 c = search needs
+
+answered-requires : tie.Need-answered-requires
+answered-requires c κs = search needs
+
+enum-known-answer-4 : tie.Need-enum-known-answer-4
+enum-known-answer-4 c = search needs
+
+answered-requires-2 : tie.Need-answered-requires-2
+answered-requires-2 c κs = search needs
+
+enum-known-answer-5 : tie.Need-enum-known-answer-5
+enum-known-answer-5 c = search needs
+
+refused-requires-2 : tie.Need-refused-requires-2
+refused-requires-2 c κs = search needs
+
+returns : tie.Need-returns
+returns c = rw (c .before .before .answer .given .1, c .contract-reply .ensures)
+
+returns-2 : tie.Need-returns-2
+returns-2 c = rw (c .before .before .answer2 .given .1, c .refused .ensures)
+
+returns-3 : tie.Need-returns-3
+returns-3 c = rw (c .before .before .answer3 .given .1, c .answered .ensures)
+
+returns-4 : tie.Need-returns-4
+returns-4 c = rw (c .before .before .answer4 .given .1, c .answered2 .ensures)
+
+returns-5 : tie.Need-returns-5
+returns-5 c = rw (c .before .before .answer5 .given .1, c .refused2 .ensures)
+
+pub checking-reply-spec : {M : Type 1} → statement M
+checking-reply-spec =
+    tie.close
+    (tie.spec
+    enum-known-answer
+    contract-reply-requires
+    enum-known-answer-2
+    refused-requires
+    enum-known-answer-3
+    answered-requires
+    enum-known-answer-4
+    answered-requires-2
+    enum-known-answer-5
+    refused-requires-2
+    returns
+    returns-2
+    returns-3
+    returns-4
+    returns-5)

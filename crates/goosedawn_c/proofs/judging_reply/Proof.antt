@@ -1,0 +1,81 @@
+-- Case by case: what the answer is known to be, and the reply made of its values.
+use borrow.Author.Needs.{needs}
+use Rattle.goosedawn_c.proofs.judging_reply.Statement.{statement}
+use Rattle.goosedawn_c.proofs.judging_reply.Tie as tie
+
+enum-known-answer : tie.Need-enum-known-answer
+enum-known-answer c = search needs
+
+contract-reply-requires : tie.Need-contract-reply-requires
+contract-reply-requires c κs = search needs
+
+enum-told : tie.Need-enum-told
+enum-told c = search needs
+
+refused-requires : tie.Need-refused-requires
+refused-requires c κs = search needs
+
+enum-known-answer-2 : tie.Need-enum-known-answer-2
+enum-known-answer-2 c = search needs
+
+document-reply-requires : tie.Need-document-reply-requires
+document-reply-requires c κs = search needs
+
+enum-told-2 : tie.Need-enum-told-2
+enum-told-2 c = search needs
+
+answered-requires : tie.Need-answered-requires
+answered-requires c κs = search needs
+
+enum-told-3 : tie.Need-enum-told-3
+enum-told-3 c = search needs
+
+answered-requires-2 : tie.Need-answered-requires-2
+answered-requires-2 c κs = search needs
+
+enum-told-4 : tie.Need-enum-told-4
+enum-told-4 c = search needs
+
+answered-requires-3 : tie.Need-answered-requires-3
+answered-requires-3 c κs = search needs
+
+returns : tie.Need-returns
+returns c = rw (c .before .before .answer .given .1, c .contract-reply .ensures)
+
+returns-2 : tie.Need-returns-2
+returns-2 c = rw (c .before .enum-told .given .1, c .refused .ensures)
+
+returns-3 : tie.Need-returns-3
+returns-3 c = rw (c .before .before .answer2 .given .1, c .document-reply .ensures)
+
+returns-4 : tie.Need-returns-4
+returns-4 c = rw (c .before .enum-told2 .given .1, c .answered .ensures)
+
+returns-5 : tie.Need-returns-5
+returns-5 c = rw (c .before .enum-told3 .given .1, c .answered2 .ensures)
+
+returns-6 : tie.Need-returns-6
+returns-6 c = rw (c .before .enum-told4 .given .1, c .answered3 .ensures)
+
+pub judging-reply-spec : {M : Type 1} → statement M
+judging-reply-spec =
+    tie.close
+    (tie.spec
+    enum-known-answer
+    contract-reply-requires
+    enum-told
+    refused-requires
+    enum-known-answer-2
+    document-reply-requires
+    enum-told-2
+    answered-requires
+    enum-told-3
+    answered-requires-2
+    enum-told-4
+    answered-requires-3
+    returns
+    returns-2
+    returns-3
+    returns-4
+    returns-5
+    returns-6)

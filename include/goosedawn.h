@@ -1,0 +1,109 @@
+/* Goosedawn for C: contracts admitted, documents judged and transformed, trees written out.
+ *
+ * Link with target/staticlib/libgoosedawn_c.a, which `rt staticlib goosedawn_c` proves and writes (x86-64).
+ *
+ * Any numbers and any lengths may be handed in: what is wrong is refused. Each table is a pointer, then how many 16-bit
+ * numbers it has; the pointer is of live memory of that length and never null, also where the length is 0. A buffer that
+ * is written overlaps no other memory handed in. No function allocates, keeps a pointer, or touches anything else.
+ *
+ * Tables hold tuples one after another:
+ *   counts        how many parameters each procedure has, 0 to 2; procedure 0 is the start and has none
+ *   input_rows    (state, symbol, left state, right state); for symbol 0 both child states are 0
+ *   input_marks   for each input state 1 if it is accepted, otherwise 0
+ *   output_table  the state of symbol 0; then for each symbol from 1, each left state, each right state, a state
+ *   output_marks  for each output state 1 if it is accepted, otherwise 0
+ *   nodes         (tag, name, child, first, second): tag 0 a parameter, 1 an output symbol, 2 a call on child 1 or 2
+ *   rules         (procedure, symbol, node)
+ * Sizes: symbols 1 to 16, input states 1 to 32, output states 1 to 4, procedures 1 to 16, at most 512 input rows, 256
+ * nodes and 256 rules.
+ *
+ * A document is its symbols in preorder, 1 to 1023 numbers: symbol 0 stands alone, any other has two trees after it. */
+#ifndef GOOSEDAWN_H
+#define GOOSEDAWN_H
+
+#include <stddef.h>
+#include <stdint.h>
+
+#ifdef __cplusplus
+extern "C" {
+#endif
+
+/* Which answer a reply is. What its two values hold stands beside it; a value that is not named is 0. */
+enum {
+    GOOSEDAWN_REFUSED = 0,  /* first: the refusal's number; second: its place */
+    GOOSEDAWN_ADMITTED = 1,
+    GOOSEDAWN_JUDGED = 2,   /* first: the result */
+    GOOSEDAWN_PASS = 3,     /* first: how many kinds there are */
+    GOOSEDAWN_TREE = 4,     /* first: the row of a tree that breaks the contract */
+    GOOSEDAWN_RAN = 5,      /* first: the root row; second: how many rows are used */
+    GOOSEDAWN_WRITTEN = 6   /* first: how many numbers are written */
+};
+
+typedef struct {
+    size_t answer;
+    size_t first;
+    size_t second;
+} goosedawn_reply;
+
+/* The parameters of a contract, in the order in which each function takes them. */
+#define GOOSEDAWN_CONTRACT \
+    size_t symbols, size_t input_states, size_t output_states, \
+    const uint16_t *counts, size_t counts_length, \
+    const uint16_t *input_rows, size_t input_rows_length, \
+    const uint16_t *input_marks, size_t input_marks_length, \
+    const uint16_t *output_table, size_t output_table_length, \
+    const uint16_t *output_marks, size_t output_marks_length, \
+    const uint16_t *nodes, size_t nodes_length, \
+    const uint16_t *rules, size_t rules_length
+
+/* Admits a contract. Answers ADMITTED, or the first refusal that applies, with its lowest place:
+ *   1  a size is out of range: 0 symbols, 1 input states, 2 output states, 3 procedures
+ *   2  a table's length: 0 input rows, 1 input marks, 2 output table, 3 output marks, 4 nodes, 5 rules
+ *   3  a bad input row: the row
+ *   4  a mark above 1 or an output entry that is no state: the index through input marks, output table and output
+ *      marks laid end to end
+ *   5  a parameter count above 2, or procedure 0 with parameters: the procedure
+ *   6  a bad node: the node
+ *   7  a bad rule: the rule
+ *   8  over 256 facts: how many there are */
+goosedawn_reply goosedawn_admit(GOOSEDAWN_CONTRACT);
+
+/* Judges a document by a contract. Refusals 1 to 8, then
+ *   9   the kind buffer is not five words: 0
+ *   11  over 1023 numbers: how many there are
+ *   12  the first number that is no symbol or stands after the tree, or the length if the tree has not ended
+ * which write nothing. Otherwise JUDGED, and the kind of the document is written: word 0 has a bit for each input state
+ * that it reaches, words 1 to 4 a bit for each fact. The result is 0, not of the input type; 1, of the input type with
+ * no output outside the output type; 2, of the input type with such an output. */
+goosedawn_reply goosedawn_judge(GOOSEDAWN_CONTRACT, const uint16_t *numbers, size_t numbers_length, uint64_t *kind,
+                                size_t kind_length);
+
+/* Runs a contract's transformation on a document, taking for each call the first rule listed. Refusals 1 to 8, then
+ *   9   the row buffer's length is no multiple of three or above 12288: 0
+ *   11, 12  as in judging
+ * which write nothing; then, whichever comes first in the order of work, with the row buffer all 0,
+ *   13  a procedure has no rule where it is called: the procedure
+ *   14  a row is due and none is free: how many rows there are
+ *   15  a call past 65536: 65536
+ * Otherwise RAN: the buffer holds rows (symbol, left row, right row), each after its children, and unused rows are 0.
+ * The tree of the root row is one of the transformation's outputs on the document.
+ *
+ * A run nests as deep as the document and the expressions are: the deepest one of all needs about 26 MiB of stack
+ * (27119616 bytes were measured), so call this on a thread that has 32 MiB or more unless your contracts are small. */
+goosedawn_reply goosedawn_run(GOOSEDAWN_CONTRACT, const uint16_t *numbers, size_t numbers_length, uint16_t *rows,
+                              size_t rows_length);
+
+/* Writes out the tree of a row in preorder: its symbol, then the trees of its two smaller rows; symbol 0 stands alone.
+ *   16  the rows' length is no multiple of three or above 12288: 0
+ *   17  the first row with a symbol above 15, a symbol 0 with non-zero children, or another symbol with a child that is
+ *       not below its own row: that row
+ *   18  there is no row of this number: that number
+ *   19  the tree has more numbers than the buffer: the buffer's length
+ * Refusals write nothing. Otherwise WRITTEN, and what follows the tree in the buffer is kept. */
+goosedawn_reply goosedawn_write_out(const uint16_t *rows, size_t rows_length, size_t row, uint16_t *buffer,
+                                    size_t buffer_length);
+
+#ifdef __cplusplus
+}
+#endif
+#endif

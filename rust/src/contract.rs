@@ -1,0 +1,90 @@
+//! The tables of a contract, exactly as they are handed in: nothing here is known to be admitted.
+
+/// Sizes and tables, in the order in which every operation takes them.
+#[derive(Clone, Debug, Default, PartialEq, Eq)]
+pub struct Contract {
+    pub symbols: usize,
+    pub input_states: usize,
+    pub output_states: usize,
+    /// How many parameters each procedure has.
+    pub counts: Vec<u16>,
+    /// (state, symbol, left state, right state)
+    pub input_rows: Vec<u16>,
+    pub input_marks: Vec<u16>,
+    /// The state of symbol 0, then a state for each other symbol, left state and right state.
+    pub output_table: Vec<u16>,
+    pub output_marks: Vec<u16>,
+    /// (tag, name, child, first, second)
+    pub nodes: Vec<u16>,
+    /// (procedure, symbol, node)
+    pub rules: Vec<u16>,
+}
+
+/// What an expression node does.
+#[derive(Clone, Copy, Debug, PartialEq, Eq)]
+pub enum Node {
+    /// Parameter 0 or 1 of the procedure (written 1 or 2 in the table).
+    Parameter(usize),
+    /// The empty forest.
+    Empty,
+    /// An output symbol over two smaller nodes.
+    Symbol(usize, usize, usize),
+    /// A procedure on a child, with the nodes of its arguments.
+    Call { procedure: usize, right: bool, first: usize, second: usize },
+}
+
+impl Contract {
+    pub fn procedures(&self) -> usize {
+        self.counts.len()
+    }
+
+    pub fn count(&self, procedure: usize) -> usize {
+        usize::from(self.counts[procedure])
+    }
+
+    pub fn input_row(&self, row: usize) -> [usize; 4] {
+        tuple(&self.input_rows, row)
+    }
+
+    pub fn node_numbers(&self, node: usize) -> [usize; 5] {
+        tuple(&self.nodes, node)
+    }
+
+    pub fn rule(&self, rule: usize) -> [usize; 3] {
+        tuple(&self.rules, rule)
+    }
+
+    pub fn input_row_count(&self) -> usize {
+        self.input_rows.len() / 4
+    }
+
+    pub fn node_count(&self) -> usize {
+        self.nodes.len() / 5
+    }
+
+    pub fn rule_count(&self) -> usize {
+        self.rules.len() / 3
+    }
+
+    /// A node of an admitted contract.
+    pub fn node(&self, node: usize) -> Node {
+        let [tag, name, child, first, second] = self.node_numbers(node);
+        match (tag, name) {
+            (0, _) => Node::Parameter(name - 1),
+            (1, 0) => Node::Empty,
+            (1, _) => Node::Symbol(name, first, second),
+            _ => Node::Call { procedure: name, right: child == 2, first, second },
+        }
+    }
+
+    /// The state that the output table gives a symbol other than 0 over two states.
+    pub fn output_state(&self, symbol: usize, left: usize, right: usize) -> usize {
+        let states = self.output_states;
+        usize::from(self.output_table[1 + ((symbol - 1) * states + left) * states + right])
+    }
+}
+
+/// Tuple `index` of a table of tuples.
+pub fn tuple<const WIDTH: usize>(table: &[u16], index: usize) -> [usize; WIDTH] {
+    std::array::from_fn(|field| usize::from(table[WIDTH * index + field]))
+}

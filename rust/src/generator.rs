@@ -1,0 +1,263 @@
+//! Random questions from a seed: the same seed gives the same questions everywhere.
+
+use crate::contract::Contract;
+
+/// A small generator of random numbers (xorshift with a multiplication).
+#[derive(Clone, Debug)]
+pub struct Random(u64);
+
+impl Random {
+    pub fn new(seed: u64) -> Random {
+        Random(seed.wrapping_mul(0x9E37_79B9_7F4A_7C15) | 1)
+    }
+
+    pub fn draw(&mut self) -> u64 {
+        self.0 ^= self.0 >> 12;
+        self.0 ^= self.0 << 25;
+        self.0 ^= self.0 >> 27;
+        self.0.wrapping_mul(0x2545_F491_4F6C_DD1D)
+    }
+
+    /// A number below `n`, which is not 0.
+    pub fn below(&mut self, n: usize) -> usize {
+        ((self.draw() >> 33) % n as u64) as usize
+    }
+
+    /// A number from `least` to `most`.
+    pub fn within(&mut self, least: usize, most: usize) -> usize {
+        least + self.below(most - least + 1)
+    }
+
+    /// True once in `n` times.
+    pub fn once_in(&mut self, n: usize) -> bool {
+        self.below(n) == 0
+    }
+
+    fn list(&mut self, length: usize, bound: usize) -> Vec<u16> {
+        (0..length).map(|_| self.below(bound) as u16).collect()
+    }
+}
+
+/// How large the tables of a contract become.
+#[derive(Clone, Copy, Debug, PartialEq, Eq)]
+pub enum Size {
+    Small,
+    Large,
+}
+
+/// A contract that admission takes.
+pub fn valid(random: &mut Random, size: Size) -> Contract {
+    let (symbols, inputs, outputs, procedures, rows, nodes, rules) = match size {
+        Size::Small => (4, 4, 3, 4, 12, 16, 12),
+        Size::Large => (16, 32, 4, 16, 512, 256, 256),
+    };
+    let symbols = random.within(1, symbols);
+    let input_states = random.within(1, inputs);
+    let output_states = random.within(1, outputs);
+    let counts = counts(random, procedures, output_states);
+    let mut contract = Contract {
+        symbols,
+        input_states,
+        output_states,
+        counts,
+        input_marks: random.list(input_states, 2),
+        output_table: random.list(1 + (symbols - 1) * output_states * output_states, output_states),
+        output_marks: random.list(output_states, 2),
+        ..Contract::default()
+    };
+    for _ in 0..random.within(0, rows) {
+        let symbol = random.below(symbols);
+        let bound = if symbol == 0 { 1 } else { input_states };
+        let row = [random.below(input_states), symbol, random.below(bound), random.below(bound)];
+        contract.input_rows.extend(row.map(|field| field as u16));
+    }
+    add_nodes(random, &mut contract, nodes);
+    add_rules(random, &mut contract, rules);
+    contract
+}
+
+/// Parameter counts with at most 256 facts.
+fn counts(random: &mut Random, most: usize, states: usize) -> Vec<u16> {
+    let mut counts = vec![0];
+    let mut facts = states;
+    for _ in 1..random.within(1, most) {
+        let count = random.below(3);
+        facts += states.pow(count as u32 + 1);
+        if facts > 256 {
+            break;
+        }
+        counts.push(count as u16);
+    }
+    counts
+}
+
+/// What a rule may use of a node: the greatest parameter, and whether it holds a call.
+fn uses(contract: &Contract) -> Vec<(usize, bool)> {
+    let mut uses: Vec<(usize, bool)> = Vec::new();
+    for node in 0..contract.node_count() {
+        let [tag, name, _, first, second] = contract.node_numbers(node);
+        let references = match tag {
+            0 => 0,
+            1 => {
+                if name == 0 {
+                    0
+                } else {
+                    2
+                }
+            }
+            _ => contract.count(name),
+        };
+        let below = [first, second].into_iter().take(references).map(|node| uses[node]);
+        let own = if tag == 0 { (name, false) } else { (0, tag == 2) };
+        let joined = below.fold(own, |a, b| (a.0.max(b.0), a.1 || b.1));
+        uses.push(joined);
+    }
+    uses
+}
+
+fn add_nodes(random: &mut Random, contract: &mut Contract, most: usize) {
+    for node in 0..random.within(1, most) {
+        let smaller = |random: &mut Random| random.below(node.max(1));
+        let fields = match random.below(6) {
+            0 => [0, random.within(1, 2), 0, 0, 0],
+            1 => [1, 0, 0, 0, 0],
+            2 | 3 if node > 0 && contract.symbols > 1 => {
+                [1, random.within(1, contract.symbols - 1), 0, smaller(random), smaller(random)]
+            }
+            _ => {
+                let procedure = random.below(contract.procedures());
+                match contract.count(procedure) {
+                    0 => [2, procedure, random.within(1, 2), 0, 0],
+                    1 if node > 0 => [2, procedure, random.within(1, 2), smaller(random), 0],
+                    2 if node > 0 => [2, procedure, random.within(1, 2), smaller(random), smaller(random)],
+                    _ => [1, 0, 0, 0, 0],
+                }
+            }
+        };
+        contract.nodes.extend(fields.map(|field| field as u16));
+    }
+}
+
+fn add_rules(random: &mut Random, contract: &mut Contract, most: usize) {
+    let uses = uses(contract);
+    let wanted = random.within(0, most);
+    for _ in 0..4 * most {
+        if contract.rule_count() == wanted {
+            break;
+        }
+        let (procedure, symbol, node) =
+            (random.below(contract.procedures()), random.below(contract.symbols), random.below(uses.len()));
+        if uses[node].0 <= contract.count(procedure) && !(symbol == 0 && uses[node].1) {
+            contract.rules.extend([procedure, symbol, node].map(|field| field as u16));
+        }
+    }
+}
+
+/// The contract with one or two faults: a number changed, a table cut or lengthened, a size changed.
+pub fn damaged(random: &mut Random, mut contract: Contract) -> Contract {
+    for _ in 0..random.within(1, 2) {
+        match random.below(12) {
+            0 => contract.symbols = any_size(random, 18),
+            1 => contract.input_states = any_size(random, 34),
+            2 => contract.output_states = any_size(random, 6),
+            which => {
+                let table = match which {
+                    3 | 4 => &mut contract.input_rows,
+                    5 => &mut contract.input_marks,
+                    6 => &mut contract.output_table,
+                    7 => &mut contract.output_marks,
+                    8 => &mut contract.counts,
+                    9 | 10 => &mut contract.nodes,
+                    _ => &mut contract.rules,
+                };
+                damage(random, table);
+            }
+        }
+    }
+    contract
+}
+
+fn any_size(random: &mut Random, most: usize) -> usize {
+    if random.once_in(4) {
+        65_535
+    } else {
+        random.within(0, most)
+    }
+}
+
+fn damage(random: &mut Random, table: &mut Vec<u16>) {
+    let value = [0, 1, 2, 3, 4, 16, 255, 65_535][random.below(8)];
+    match random.below(6) {
+        0 => table.push(value),
+        1 => {
+            table.pop();
+        }
+        2 => table.extend(vec![value; random.within(1, 3000)]),
+        _ if table.is_empty() => table.push(value),
+        _ => {
+            let place = random.below(table.len());
+            table[place] = value;
+        }
+    }
+}
+
+/// A document over the symbols: of about `size` inner symbols.
+pub fn document(random: &mut Random, symbols: usize, size: usize) -> Vec<u16> {
+    let mut numbers = Vec::new();
+    let mut due = 1;
+    let mut inner = size;
+    while due > 0 {
+        if symbols > 1 && inner > 0 && (due == 1 || !random.once_in(2)) {
+            numbers.push(random.within(1, symbols - 1) as u16);
+            inner -= 1;
+            due += 1;
+        } else {
+            numbers.push(0);
+            due -= 1;
+        }
+    }
+    numbers
+}
+
+/// Any numbers: a document, or one that is cut, lengthened or changed, or too long.
+pub fn numbers(random: &mut Random, symbols: usize) -> Vec<u16> {
+    let size = if random.once_in(8) { random.within(0, 520) } else { random.within(0, 12) };
+    let mut numbers = document(random, symbols, size);
+    match random.below(8) {
+        0 => {
+            numbers.pop();
+        }
+        1 => numbers.push(0),
+        2 => {
+            let place = random.below(numbers.len());
+            numbers[place] = random.below(symbols.max(1) + 2) as u16;
+        }
+        _ => {}
+    }
+    numbers
+}
+
+/// Rows over smaller rows, sometimes damaged.
+pub fn rows(random: &mut Random, most: usize) -> Vec<u16> {
+    let mut rows: Vec<u16> = Vec::new();
+    for row in 0..random.within(0, most) {
+        let symbol = if row == 0 || random.once_in(3) { 0 } else { random.within(1, 15) };
+        let fields = if symbol == 0 { [0, 0, 0] } else { [symbol, random.below(row), random.below(row)] };
+        rows.extend(fields.map(|field| field as u16));
+    }
+    if random.once_in(4) {
+        damage(random, &mut rows);
+    }
+    rows
+}
+
+/// A contract of any sort: small or large, whole or damaged.
+pub fn contract(random: &mut Random) -> Contract {
+    let size = if random.once_in(8) { Size::Large } else { Size::Small };
+    let contract = valid(random, size);
+    if random.once_in(3) {
+        damaged(random, contract)
+    } else {
+        contract
+    }
+}

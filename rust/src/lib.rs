@@ -1,0 +1,17 @@
+//! Goosedawn seen from Rust.
+//!
+//! * [`contract`]: the tables of a contract, as they are handed in.
+//! * [`engine`]: the five operations as a trait, and their answers. The seam at which an implementation is plugged in.
+//! * [`model`]: an independent, plain implementation of the five operations.
+//! * [`library`]: the proved library, called through its C functions.
+//! * [`script`]: scripts of questions, played on any engine.
+//! * [`generator`]: random contracts, documents and rows, valid and damaged, from a seed.
+//! * [`comparison`]: two engines asked the same random questions.
+
+pub mod comparison;
+pub mod contract;
+pub mod engine;
+pub mod generator;
+pub mod library;
+pub mod model;
+pub mod script;

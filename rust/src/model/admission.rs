@@ -1,0 +1,115 @@
+//! Admission: refusals 1 to 8, the first that applies, at its lowest place.
+
+use super::Refusal;
+use crate::contract::Contract;
+
+/// The most facts of a contract.
+pub const MOST_FACTS: usize = 256;
+
+/// Nothing, or the refusal of a contract.
+pub fn admission(contract: &Contract) -> Result<(), Refusal> {
+    let (symbols, inputs, outputs) = (contract.symbols, contract.input_states, contract.output_states);
+    refuse_first(
+        1,
+        [
+            !(1..=16).contains(&symbols),
+            !(1..=32).contains(&inputs),
+            !(1..=4).contains(&outputs),
+            !(1..=16).contains(&contract.procedures()),
+        ],
+    )?;
+    refuse_first(
+        2,
+        [
+            tuples_wrong(4, 512, contract.input_rows.len()),
+            contract.input_marks.len() != inputs,
+            contract.output_table.len() != 1 + (symbols - 1) * outputs * outputs,
+            contract.output_marks.len() != outputs,
+            tuples_wrong(5, 256, contract.nodes.len()),
+            tuples_wrong(3, 256, contract.rules.len()),
+        ],
+    )?;
+    refuse_first(3, (0..contract.input_row_count()).map(|row| input_row_wrong(contract, row)))?;
+    let marks = |marks: &[u16]| marks.iter().map(|&mark| mark > 1).collect::<Vec<_>>();
+    let entries = contract.output_table.iter().map(|&state| usize::from(state) >= outputs);
+    refuse_first(4, marks(&contract.input_marks).into_iter().chain(entries).chain(marks(&contract.output_marks)))?;
+    refuse_first(
+        5,
+        contract.counts.iter().enumerate().map(|(procedure, &count)| count > 2 || (procedure == 0 && count != 0)),
+    )?;
+    refuse_first(6, (0..contract.node_count()).map(|node| node_wrong(contract, node)))?;
+    let uses = node_uses(contract);
+    refuse_first(7, (0..contract.rule_count()).map(|rule| rule_wrong(contract, &uses, rule)))?;
+    match fact_total(contract) {
+        total if total > MOST_FACTS => Err((8, total)),
+        _ => Ok(()),
+    }
+}
+
+/// How many facts there are.
+pub fn fact_total(contract: &Contract) -> usize {
+    contract.counts.iter().map(|&count| contract.output_states.pow(u32::from(count) + 1)).sum()
+}
+
+fn refuse_first(number: u64, wrong: impl IntoIterator<Item = bool>) -> Result<(), Refusal> {
+    match wrong.into_iter().position(|wrong| wrong) {
+        Some(place) => Err((number, place)),
+        None => Ok(()),
+    }
+}
+
+fn tuples_wrong(width: usize, most: usize, length: usize) -> bool {
+    !length.is_multiple_of(width) || length > width * most
+}
+
+fn input_row_wrong(contract: &Contract, row: usize) -> bool {
+    let [state, symbol, left, right] = contract.input_row(row);
+    let states = contract.input_states;
+    state >= states
+        || symbol >= contract.symbols
+        || left >= states
+        || right >= states
+        || (symbol == 0 && (left, right) != (0, 0))
+}
+
+fn node_wrong(contract: &Contract, node: usize) -> bool {
+    let [tag, name, child, first, second] = contract.node_numbers(node);
+    let references = match tag {
+        0 if name == 1 || name == 2 => 0,
+        1 if name == 0 => 0,
+        1 if name < contract.symbols => 2,
+        2 if name < contract.procedures() => contract.count(name),
+        _ => return true,
+    };
+    let child_right = if tag == 2 { child == 1 || child == 2 } else { child == 0 };
+    let right = |field: usize, used: bool| if used { field < node } else { field == 0 };
+    !(child_right && right(first, references >= 1) && right(second, references >= 2))
+}
+
+/// The greatest parameter that a node uses, directly or below, and whether it holds a call.
+fn node_uses(contract: &Contract) -> Vec<(usize, bool)> {
+    let mut uses: Vec<(usize, bool)> = Vec::new();
+    for node in 0..contract.node_count() {
+        let [tag, name, _, first, second] = contract.node_numbers(node);
+        let references = match tag {
+            0 => 0,
+            1 => usize::from(name != 0) * 2,
+            _ => contract.count(name),
+        };
+        let mut use_here = if tag == 0 { (name, false) } else { (0, tag == 2) };
+        for below in [first, second].into_iter().take(references) {
+            use_here = (use_here.0.max(uses[below].0), use_here.1 | uses[below].1);
+        }
+        uses.push(use_here);
+    }
+    uses
+}
+
+fn rule_wrong(contract: &Contract, uses: &[(usize, bool)], rule: usize) -> bool {
+    let [procedure, symbol, node] = contract.rule(rule);
+    if procedure >= contract.procedures() || symbol >= contract.symbols || node >= uses.len() {
+        return true;
+    }
+    let (parameter, call) = uses[node];
+    parameter > contract.count(procedure) || (symbol == 0 && call)
+}

@@ -1,0 +1,124 @@
+//! Checking a contract: kinds in rounds, until one breaks, the list ends or the limit is passed.
+
+use super::kinds::{Kind, Kinds, Parts};
+use super::{admission, Refusal};
+use crate::contract::Contract;
+use crate::engine::Answer;
+use std::collections::HashSet;
+use std::hash::{BuildHasherDefault, Hasher};
+
+/// A quick hash of words: each is added, multiplied and folded.
+#[derive(Default)]
+struct WordHasher(u64);
+
+impl Hasher for WordHasher {
+    fn write(&mut self, bytes: &[u8]) {
+        for word in bytes.chunks(8) {
+            let mut padded = [0; 8];
+            padded[..word.len()].copy_from_slice(word);
+            let mixed = (self.0 ^ u64::from_le_bytes(padded)).wrapping_mul(0x9E37_79B9_7F4A_7C15);
+            self.0 = mixed ^ mixed >> 32;
+        }
+    }
+
+    fn finish(&self) -> u64 {
+        self.0
+    }
+}
+
+/// The kinds listed so far, with their rows.
+struct List<'a> {
+    kinds: Kinds<'a>,
+    limit: usize,
+    rows: Vec<[u16; 3]>,
+    words: Vec<Kind>,
+    parts: Vec<Parts>,
+    listed: HashSet<Kind, BuildHasherDefault<WordHasher>>,
+}
+
+/// Why the listing stops before its end.
+enum Stop {
+    Breaks,
+    Full,
+}
+
+impl List<'_> {
+    /// Lists a kind unless it is listed.
+    fn offer(&mut self, row: [u16; 3], kind: Kind) -> Result<(), Stop> {
+        if self.listed.contains(&kind) {
+            return Ok(());
+        }
+        if self.rows.len() == self.limit {
+            return Err(Stop::Full);
+        }
+        self.listed.insert(kind);
+        self.rows.push(row);
+        self.words.push(kind);
+        self.parts.push(self.kinds.parts(&kind));
+        if self.kinds.breaks(&kind) {
+            Err(Stop::Breaks)
+        } else {
+            Ok(())
+        }
+    }
+
+    /// One round over the first `count` rows; a pair of the first `seen` was visited in an earlier round.
+    fn round(&mut self, symbols: usize, seen: usize, count: usize) -> Result<(), Stop> {
+        for symbol in 1..symbols {
+            for left in 0..count {
+                for right in if left < seen { seen } else { 0 }..count {
+                    let kind = self.kinds.kind(symbol, &self.parts[left], &self.parts[right]);
+                    self.offer([symbol as u16, left as u16, right as u16], kind)?;
+                }
+            }
+        }
+        Ok(())
+    }
+
+    fn rounds(&mut self, symbols: usize) -> Result<(), Stop> {
+        self.offer([0, 0, 0], self.kinds.empty())?;
+        let mut seen = 0;
+        while seen < self.rows.len() {
+            let count = self.rows.len();
+            self.round(symbols, seen, count)?;
+            seen = count;
+        }
+        Ok(())
+    }
+}
+
+/// Checking.
+pub fn check(contract: &Contract, limit: usize, rows: &mut [u16], words: &mut [u64]) -> Result<Answer, Refusal> {
+    admission::admission(contract)?;
+    if !(1..=512).contains(&limit) {
+        return Err((9, 0));
+    }
+    if rows.len() != 3 * limit {
+        return Err((9, 1));
+    }
+    if words.len() != 5 * limit {
+        return Err((9, 2));
+    }
+    let mut list = List {
+        kinds: Kinds::new(contract),
+        limit,
+        rows: Vec::new(),
+        words: Vec::new(),
+        parts: Vec::new(),
+        listed: HashSet::default(),
+    };
+    let ended = list.rounds(contract.symbols);
+    rows.fill(0);
+    words.fill(0);
+    if let Err(Stop::Full) = ended {
+        return Err((10, limit));
+    }
+    for (place, (row, kind)) in list.rows.iter().zip(&list.words).enumerate() {
+        rows[3 * place..3 * place + 3].copy_from_slice(row);
+        words[5 * place..5 * place + 5].copy_from_slice(kind);
+    }
+    Ok(match ended {
+        Ok(()) => Answer::Pass { count: list.rows.len() },
+        Err(_) => Answer::Tree { row: list.rows.len() - 1 },
+    })
+}

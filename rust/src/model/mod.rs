@@ -1,0 +1,46 @@
+//! An independent model of the five operations, written to be read: bit masks for sets of states, one ascending pass over
+//! the nodes for each assignment of parameter states, no pair of rows visited twice, kinds looked up by hash.
+
+pub mod admission;
+pub mod checking;
+pub mod documents;
+pub mod kinds;
+pub mod running;
+pub mod writing;
+
+use crate::contract::Contract;
+use crate::engine::{Answer, Engine};
+
+/// A refusal: its number and its place.
+pub type Refusal = (u64, usize);
+
+/// The model as an engine.
+#[derive(Clone, Copy, Debug, Default)]
+pub struct Model;
+
+/// The answer of an outcome.
+pub fn answer(outcome: Result<Answer, Refusal>) -> Answer {
+    outcome.unwrap_or_else(|(number, place)| Answer::Refused { number, place })
+}
+
+impl Engine for Model {
+    fn admit(&self, contract: &Contract) -> Answer {
+        answer(admission::admission(contract).map(|()| Answer::Admitted))
+    }
+
+    fn judge(&self, contract: &Contract, numbers: &[u16], kind: &mut [u64]) -> Answer {
+        answer(kinds::judge(contract, numbers, kind))
+    }
+
+    fn check(&self, contract: &Contract, limit: usize, rows: &mut [u16], words: &mut [u64]) -> Answer {
+        answer(checking::check(contract, limit, rows, words))
+    }
+
+    fn run(&self, contract: &Contract, numbers: &[u16], rows: &mut [u16]) -> Answer {
+        answer(running::run(contract, numbers, rows))
+    }
+
+    fn write_out(&self, rows: &[u16], row: usize, buffer: &mut [u16]) -> Answer {
+        answer(writing::write_out(rows, row, buffer))
+    }
+}

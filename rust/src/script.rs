@@ -1,0 +1,362 @@
+//! Scripts of questions, and their answers line for line. docs/FORMAT.md describes both.
+
+use crate::contract::Contract;
+use crate::engine::{Answer, Engine};
+use std::fmt::Write;
+
+/// The most bytes of a script that are read.
+pub const MOST_BYTES: usize = 2_097_152;
+
+/// The most bytes of a token that a fault shows.
+pub const MOST_SHOWN: usize = 32;
+
+/// What a fault says was expected.
+const A_STATEMENT: &str = "a statement";
+const A_NUMBER: &str = "a number from 0 to 65535";
+const A_NAME: &str = "a name";
+
+/// What `help` prints.
+pub const HELP: &str = "\
+case NAME: the label of the answers that follow
+symbols N: how many symbols there are
+input-states N: how many input states there are
+output-states N: how many output states there are
+counts N ..: how many parameters each procedure has
+input-rows N ..: state, symbol, left state, right state
+input-marks N ..: 1 for each accepted input state, otherwise 0
+output-table N ..: the state of symbol 0, then by symbol, left state and right state
+output-marks N ..: 1 for each accepted output state, otherwise 0
+nodes N ..: tag, name, child, first, second
+rules N ..: procedure, symbol, node
+admit: admit the contract
+judge N ..: judge a document
+check L: check the contract, listing at most L kinds
+run R N ..: run the transformation on a document, with room for R rows
+rows N ..: the row table that write reads
+write J B: write out the tree of row J, with room for B numbers
+show: the buffers as the last check, run or judge left them
+";
+
+/// A token: where it starts, and its bytes.
+#[derive(Clone, Copy, Debug)]
+struct Token<'a> {
+    place: usize,
+    bytes: &'a [u8],
+}
+
+/// The place of a fault, what stood there and what was expected.
+#[derive(Debug)]
+struct Fault {
+    place: usize,
+    found: String,
+    expected: String,
+}
+
+/// The text that is read and the place reached in it.
+struct Reader<'a> {
+    text: &'a [u8],
+    /// Whether the script goes on behind the text.
+    cut: bool,
+    place: usize,
+}
+
+fn is_blank(byte: u8) -> bool {
+    matches!(byte, b' ' | b'\t' | b'\r' | b'\n')
+}
+
+/// A token that is a number is decimal digits alone; the value of one above 65535 is `None`.
+fn number(token: &[u8]) -> Option<Option<u16>> {
+    if token.is_empty() || !token.iter().all(u8::is_ascii_digit) {
+        return None;
+    }
+    let value = token.iter().fold(0u32, |value, digit| (value * 10 + u32::from(digit - b'0')).min(65_536));
+    Some(u16::try_from(value).ok())
+}
+
+impl<'a> Reader<'a> {
+    fn new(script: &'a [u8]) -> Reader<'a> {
+        Reader { text: &script[..script.len().min(MOST_BYTES)], cut: script.len() > MOST_BYTES, place: 0 }
+    }
+
+    /// The next token, which is not taken yet; none at the end.
+    fn peek(&self) -> Result<Option<Token<'a>>, Fault> {
+        let mut place = self.place;
+        while place < self.text.len() && (is_blank(self.text[place]) || self.text[place] == b'#') {
+            if self.text[place] == b'#' {
+                while place < self.text.len() && self.text[place] != b'\n' {
+                    place += 1;
+                }
+            } else {
+                place += 1;
+            }
+        }
+        let bytes = &self.text[place..];
+        let end = bytes.iter().position(|&byte| is_blank(byte) || byte == b'#').unwrap_or(bytes.len());
+        if self.cut && end == bytes.len() {
+            let (found, expected) = (format!("more than {MOST_BYTES} bytes"), "the end of the script".to_string());
+            return Err(Fault { place, found, expected });
+        }
+        Ok((end > 0).then_some(Token { place, bytes: &bytes[..end] }))
+    }
+
+    fn take(&mut self, token: Token<'a>) {
+        self.place = token.place + token.bytes.len();
+    }
+
+    fn fault(&self, token: Option<Token<'a>>, expected: &str) -> Fault {
+        let (place, found) = match token {
+            Some(token) => (token.place, shown(token.bytes)),
+            None => (self.text.len(), "the end of the script".to_string()),
+        };
+        Fault { place, found, expected: expected.to_string() }
+    }
+
+    fn name(&mut self) -> Result<Vec<u8>, Fault> {
+        match self.peek()? {
+            Some(token) => {
+                self.take(token);
+                Ok(token.bytes.to_vec())
+            }
+            None => Err(self.fault(None, A_NAME)),
+        }
+    }
+
+    fn number(&mut self) -> Result<u16, Fault> {
+        let token = self.peek()?;
+        match token.and_then(|token| number(token.bytes)) {
+            Some(Some(value)) => {
+                self.take(token.expect("a number is a token"));
+                Ok(value)
+            }
+            _ => Err(self.fault(token, A_NUMBER)),
+        }
+    }
+
+    /// The numbers up to the next word, or to the end.
+    fn numbers(&mut self) -> Result<Vec<u16>, Fault> {
+        let mut values = Vec::new();
+        while let Some(token) = self.peek()? {
+            match number(token.bytes) {
+                Some(Some(value)) => values.push(value),
+                Some(None) => return Err(self.fault(Some(token), A_NUMBER)),
+                None => break,
+            }
+            self.take(token);
+        }
+        Ok(values)
+    }
+
+    /// The line of a place, from 1.
+    fn line(&self, place: usize) -> usize {
+        1 + self.text[..place].iter().filter(|&&byte| byte == b'\n').count()
+    }
+}
+
+fn shown(token: &[u8]) -> String {
+    let most = &token[..token.len().min(MOST_SHOWN)];
+    let rest = if token.len() > MOST_SHOWN { "..." } else { "" };
+    format!("{}{rest}", String::from_utf8_lossy(most))
+}
+
+/// The buffers as the last operation left them.
+#[derive(Default)]
+struct Left {
+    rows: Option<Vec<u16>>,
+    words: Option<Vec<u64>>,
+}
+
+/// A script being played.
+struct Player<'e, E: Engine> {
+    engine: &'e E,
+    label: Vec<u8>,
+    contract: Contract,
+    rows: Vec<u16>,
+    left: Left,
+    said: String,
+}
+
+/// A buffer holds this in every place before an operation.
+const UNTOUCHED: u8 = 7;
+
+impl<E: Engine> Player<'_, E> {
+    fn say(&mut self, words: &str) {
+        let label = String::from_utf8_lossy(&self.label);
+        writeln!(self.said, "{label} {words}").expect("room");
+    }
+
+    fn say_list<T: ToString>(&mut self, word: &str, values: &[T]) {
+        let mut line = word.to_string();
+        for value in values {
+            line.push(' ');
+            line.push_str(&value.to_string());
+        }
+        self.say(&line);
+    }
+
+    /// The rows that an operation leaves become the current ones unless it was refused without writing.
+    fn keep_rows(&mut self, answer: Answer, rows: &[u16]) {
+        let written =
+            !matches!(answer, Answer::Refused { number, .. } if !(number == 10 || (13..=15).contains(&number)));
+        if written {
+            self.rows = rows.to_vec();
+        }
+    }
+
+    fn check(&mut self, limit: u16) {
+        let limit = usize::from(limit);
+        let mut rows = vec![u16::from(UNTOUCHED); 3 * limit];
+        let mut words = vec![u64::from(UNTOUCHED); 5 * limit];
+        let answer = self.engine.check(&self.contract, limit, &mut rows, &mut words);
+        self.say(&answer.to_string());
+        self.keep_rows(answer, &rows);
+        self.left = Left { rows: Some(rows), words: Some(words) };
+    }
+
+    fn run(&mut self, free: u16, numbers: &[u16]) {
+        let mut rows = vec![u16::from(UNTOUCHED); 3 * usize::from(free)];
+        let answer = self.engine.run(&self.contract, numbers, &mut rows);
+        self.say(&answer.to_string());
+        self.keep_rows(answer, &rows);
+        self.left = Left { rows: Some(rows), words: None };
+    }
+
+    fn judge(&mut self, numbers: &[u16]) {
+        let mut kind = [u64::from(UNTOUCHED); 5];
+        let answer = self.engine.judge(&self.contract, numbers, &mut kind);
+        self.say(&answer.to_string());
+        self.left = Left { rows: None, words: Some(kind.to_vec()) };
+    }
+
+    fn write(&mut self, row: u16, room: u16) {
+        let mut buffer = vec![u16::from(UNTOUCHED); usize::from(room)];
+        let answer = self.engine.write_out(&self.rows, usize::from(row), &mut buffer);
+        match answer {
+            Answer::Written { count } => self.say_list(&format!("{answer}:"), &buffer[..count]),
+            _ => self.say(&answer.to_string()),
+        }
+    }
+
+    fn show(&mut self) {
+        let left = std::mem::take(&mut self.left);
+        if let Some(rows) = &left.rows {
+            self.say_list("rows", rows);
+        }
+        if let Some(words) = &left.words {
+            self.say_list("words", words);
+        }
+        self.left = left;
+    }
+
+    /// One statement, or false at the end.
+    fn statement(&mut self, reader: &mut Reader<'_>) -> Result<bool, Fault> {
+        let Some(word) = reader.peek()? else { return Ok(false) };
+        reader.take(word);
+        match word.bytes {
+            b"case" => self.label = reader.name()?,
+            b"symbols" => self.contract.symbols = usize::from(reader.number()?),
+            b"input-states" => self.contract.input_states = usize::from(reader.number()?),
+            b"output-states" => self.contract.output_states = usize::from(reader.number()?),
+            b"counts" => self.contract.counts = reader.numbers()?,
+            b"input-rows" => self.contract.input_rows = reader.numbers()?,
+            b"input-marks" => self.contract.input_marks = reader.numbers()?,
+            b"output-table" => self.contract.output_table = reader.numbers()?,
+            b"output-marks" => self.contract.output_marks = reader.numbers()?,
+            b"nodes" => self.contract.nodes = reader.numbers()?,
+            b"rules" => self.contract.rules = reader.numbers()?,
+            b"rows" => self.rows = reader.numbers()?,
+            b"admit" => {
+                let answer = self.engine.admit(&self.contract);
+                self.say(&answer.to_string());
+            }
+            b"judge" => {
+                let numbers = reader.numbers()?;
+                self.judge(&numbers);
+            }
+            b"check" => {
+                let limit = reader.number()?;
+                self.check(limit);
+            }
+            b"run" => {
+                let free = reader.number()?;
+                let numbers = reader.numbers()?;
+                self.run(free, &numbers);
+            }
+            b"write" => {
+                let row = reader.number()?;
+                let room = reader.number()?;
+                self.write(row, room);
+            }
+            b"show" => self.show(),
+            _ => return Err(reader.fault(Some(word), A_STATEMENT)),
+        }
+        Ok(true)
+    }
+}
+
+/// Whether `help` is the only word of a script.
+fn asks_for_help(script: &[u8]) -> bool {
+    let mut reader = Reader::new(script);
+    match reader.peek() {
+        Ok(Some(word)) if word.bytes == b"help" => {
+            reader.take(word);
+            matches!(reader.peek(), Ok(None))
+        }
+        _ => false,
+    }
+}
+
+/// What a script prints.
+pub fn play<E: Engine>(engine: &E, script: &[u8]) -> String {
+    if asks_for_help(script) {
+        return HELP.to_string();
+    }
+    let mut reader = Reader::new(script);
+    let mut player = Player {
+        engine,
+        label: b"-".to_vec(),
+        contract: Contract::default(),
+        rows: Vec::new(),
+        left: Left::default(),
+        said: String::new(),
+    };
+    loop {
+        match player.statement(&mut reader) {
+            Ok(true) => {}
+            Ok(false) => break,
+            Err(fault) => {
+                let line = reader.line(fault.place);
+                writeln!(player.said, "line {line}: found {}, expected {}", fault.found, fault.expected).expect("room");
+                break;
+            }
+        }
+    }
+    player.said
+}
+
+/// The contracts of a script, each as it stands where its check is asked for, with the label and the limit.
+pub fn checks(script: &[u8]) -> Vec<(String, Contract, u16)> {
+    struct Collector(std::cell::RefCell<Vec<(Contract, u16)>>);
+    impl Engine for Collector {
+        fn admit(&self, _: &Contract) -> Answer {
+            Answer::Admitted
+        }
+        fn judge(&self, _: &Contract, _: &[u16], _: &mut [u64]) -> Answer {
+            Answer::Judged { result: 0 }
+        }
+        fn check(&self, contract: &Contract, limit: usize, _: &mut [u16], _: &mut [u64]) -> Answer {
+            self.0.borrow_mut().push((contract.clone(), limit as u16));
+            Answer::Pass { count: 0 }
+        }
+        fn run(&self, _: &Contract, _: &[u16], _: &mut [u16]) -> Answer {
+            Answer::Run { root: 0, used: 0 }
+        }
+        fn write_out(&self, _: &[u16], _: usize, _: &mut [u16]) -> Answer {
+            Answer::Written { count: 0 }
+        }
+    }
+    let collector = Collector(std::cell::RefCell::new(Vec::new()));
+    let said = play(&collector, script);
+    let labels =
+        said.lines().filter(|line| line.ends_with(" pass 0")).map(|line| line.trim_end_matches(" pass 0").to_string());
+    labels.zip(collector.0.into_inner()).map(|(label, (contract, limit))| (label, contract, limit)).collect()
+}

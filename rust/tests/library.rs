@@ -1,0 +1,134 @@
+//! The proved library answers every script of the folder that GOOSEDAWN_VECTORS names as its answers say, and agrees with
+//! the model on random questions, valid and damaged, closing buffers included.
+
+use goosedawn::comparison::compare;
+use goosedawn::contract::Contract;
+use goosedawn::engine::{Answer, Engine};
+use goosedawn::library::Library;
+use goosedawn::model::Model;
+use goosedawn::script::play;
+use std::cell::Cell;
+use std::path::Path;
+
+const FOLDER: &str = "GOOSEDAWN_VECTORS";
+
+/// How many seeds of random questions are tried, 10 where this names no number.
+const SEEDS: &str = "GOOSEDAWN_SEEDS";
+
+/// The library, with how often each operation is asked for.
+#[derive(Default)]
+struct Counted {
+    library: Library,
+    admissions: Cell<usize>,
+    judgings: Cell<usize>,
+    checks: Cell<usize>,
+    runs: Cell<usize>,
+    writings: Cell<usize>,
+}
+
+fn count(cell: &Cell<usize>) {
+    cell.set(cell.get() + 1);
+}
+
+impl Engine for Counted {
+    fn admit(&self, contract: &Contract) -> Answer {
+        count(&self.admissions);
+        self.library.admit(contract)
+    }
+    fn judge(&self, contract: &Contract, numbers: &[u16], kind: &mut [u64]) -> Answer {
+        count(&self.judgings);
+        self.library.judge(contract, numbers, kind)
+    }
+    fn check(&self, contract: &Contract, limit: usize, rows: &mut [u16], words: &mut [u64]) -> Answer {
+        count(&self.checks);
+        self.library.check(contract, limit, rows, words)
+    }
+    fn run(&self, contract: &Contract, numbers: &[u16], rows: &mut [u16]) -> Answer {
+        count(&self.runs);
+        self.library.run(contract, numbers, rows)
+    }
+    fn write_out(&self, rows: &[u16], row: usize, buffer: &mut [u16]) -> Answer {
+        count(&self.writings);
+        self.library.write_out(rows, row, buffer)
+    }
+}
+
+/// Plays a script; says how many lines agree and how many answers of each operation they hold. True if all agree.
+fn agrees(script: &Path, answers: &Path) -> bool {
+    let engine = Counted::default();
+    let said = play(&engine, &std::fs::read(script).expect("the script"));
+    let right = std::fs::read_to_string(answers).expect("the answers");
+    let lines = right.lines().count();
+    let same = said.lines().zip(right.lines()).filter(|(said, right)| said == right).count();
+    let checks = if Library::CHECKS { "proved" } else { "by the model" };
+    println!(
+        "{}: {same} of {lines} lines agree; admit {}, judge {}, check {} ({checks}), run {}, write {}",
+        script.file_name().expect("a name").to_string_lossy(),
+        engine.admissions.get(),
+        engine.judgings.get(),
+        engine.checks.get(),
+        engine.runs.get(),
+        engine.writings.get(),
+    );
+    if let Some((said, right)) = said.lines().zip(right.lines()).find(|(said, right)| said != right) {
+        println!("  {said} instead of {right}");
+    }
+    same == lines && said.lines().count() == lines
+}
+
+#[test]
+fn vectors() {
+    let Some(folder) = std::env::var_os(FOLDER) else {
+        println!("skipped: {FOLDER} names no folder");
+        return;
+    };
+    let mut scripts: Vec<_> =
+        std::fs::read_dir(folder).expect("the folder").map(|entry| entry.expect("one").path()).collect();
+    scripts.retain(|script| script.extension().is_some_and(|end| end == "script"));
+    scripts.retain(|script| script.with_extension("answers").exists());
+    scripts.sort();
+    let wrong = scripts.iter().filter(|script| !agrees(script, &script.with_extension("answers"))).count();
+    assert!(!scripts.is_empty(), "no script in the folder");
+    assert_eq!(wrong, 0, "scripts with a wrong answer");
+}
+
+#[test]
+fn worked_example() {
+    let script = include_bytes!("../../examples/worked.script");
+    assert_eq!(play(&Library::default(), script), include_str!("../../examples/worked.answers"));
+}
+
+#[test]
+fn sizes_and_row_numbers_of_every_width() {
+    let library = Library::default();
+    for size in [17, 65_536, 1 << 32, (1 << 32) + 1, usize::MAX] {
+        let contract = |symbols, input_states, output_states| Contract {
+            symbols,
+            input_states,
+            output_states,
+            counts: vec![0],
+            ..Contract::default()
+        };
+        assert_eq!(library.admit(&contract(size, 1, 1)), Answer::Refused { number: 1, place: 0 });
+        assert_eq!(library.admit(&contract(1, size << 1 | size, 1)), Answer::Refused { number: 1, place: 1 });
+        assert_eq!(library.admit(&contract(1, 1, size)), Answer::Refused { number: 1, place: 2 });
+        assert_eq!(library.write_out(&[0, 0, 0], size, &mut [7]), Answer::Refused { number: 18, place: size });
+    }
+}
+
+#[test]
+fn random_questions() {
+    if !Library::CHECKS {
+        println!("the library has no checking yet: of five questions one, the check, is asked of the model alone");
+    }
+    let seeds = std::env::var(SEEDS).ok().and_then(|seeds| seeds.parse().ok()).unwrap_or(10);
+    for seed in 1..=seeds {
+        match compare(&Model, &Library::default(), seed, 1000) {
+            Ok(seen) => {
+                println!("seed {seed}: {} refused and {} answered alike", seen.refused, seen.answered);
+                assert!(seen.refused > 500 && seen.answered > 500, "{seen:?}");
+            }
+            Err(difference) => panic!("{difference:?}"),
+        }
+    }
+}

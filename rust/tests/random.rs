@@ -1,0 +1,80 @@
+//! The generator makes what it says, and the comparison notices a wrong engine.
+
+use goosedawn::comparison::compare;
+use goosedawn::contract::Contract;
+use goosedawn::engine::{Answer, Engine};
+use goosedawn::generator::{contract, damaged, document, valid, Random, Size};
+use goosedawn::model::Model;
+
+#[test]
+fn valid_contracts_are_admitted() {
+    let mut random = Random::new(1);
+    for turn in 0..2000 {
+        let size = if turn % 10 == 0 { Size::Large } else { Size::Small };
+        let contract = valid(&mut random, size);
+        assert_eq!(Model.admit(&contract), Answer::Admitted, "{contract:?}");
+    }
+}
+
+#[test]
+fn damage_meets_every_refusal() {
+    let mut random = Random::new(2);
+    let mut seen = [0; 9];
+    for _ in 0..6000 {
+        let whole = valid(&mut random, Size::Small);
+        if let Answer::Refused { number, .. } = Model.admit(&damaged(&mut random, whole)) {
+            seen[number as usize] += 1;
+        }
+    }
+    assert!(seen[1..8].iter().all(|&times| times > 0), "{seen:?}");
+}
+
+#[test]
+fn documents_are_documents() {
+    let mut random = Random::new(3);
+    for size in 0..500 {
+        let contract = Contract { symbols: 3, ..valid(&mut random, Size::Small) };
+        let numbers = document(&mut random, contract.symbols, size);
+        assert_eq!(goosedawn::model::documents::document(3, &numbers), Ok(()), "{numbers:?}");
+    }
+}
+
+#[test]
+fn the_same_seed_gives_the_same_questions() {
+    let (mut a, mut b) = (Random::new(7), Random::new(7));
+    for _ in 0..100 {
+        assert_eq!(contract(&mut a), contract(&mut b));
+    }
+}
+
+#[test]
+fn a_model_agrees_with_itself() {
+    let seen = compare(&Model, &Model, 11, 500).expect("no difference");
+    assert!(seen.refused > 300 && seen.answered > 300, "{seen:?}");
+}
+
+/// Leaves the buffers of a check as they were.
+struct Untouched;
+
+impl Engine for Untouched {
+    fn admit(&self, contract: &Contract) -> Answer {
+        Model.admit(contract)
+    }
+    fn judge(&self, contract: &Contract, numbers: &[u16], kind: &mut [u64]) -> Answer {
+        Model.judge(contract, numbers, kind)
+    }
+    fn check(&self, contract: &Contract, limit: usize, rows: &mut [u16], words: &mut [u64]) -> Answer {
+        Model.check(contract, limit, &mut rows.to_vec(), &mut words.to_vec())
+    }
+    fn run(&self, contract: &Contract, numbers: &[u16], rows: &mut [u16]) -> Answer {
+        Model.run(contract, numbers, rows)
+    }
+    fn write_out(&self, rows: &[u16], row: usize, buffer: &mut [u16]) -> Answer {
+        Model.write_out(rows, row, buffer)
+    }
+}
+
+#[test]
+fn a_wrong_engine_is_noticed() {
+    assert!(compare(&Model, &Untouched, 11, 500).is_err());
+}

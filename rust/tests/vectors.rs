@@ -1,0 +1,35 @@
+//! Plays every script of the folder that GOOSEDAWN_VECTORS names and compares the answers line for line.
+
+use goosedawn::model::Model;
+use goosedawn::script::play;
+use std::path::Path;
+
+const FOLDER: &str = "GOOSEDAWN_VECTORS";
+
+fn compare(script: &Path, answers: &Path) {
+    let said = play(&Model, &std::fs::read(script).expect("the script"));
+    let right = std::fs::read_to_string(answers).expect("the answers");
+    for (line, (said, right)) in said.lines().zip(right.lines()).enumerate() {
+        assert!(said == right, "{}, answer {}: {said} instead of {right}", script.display(), line + 1);
+    }
+    assert_eq!(said.lines().count(), right.lines().count(), "{}", script.display());
+}
+
+#[test]
+fn vectors() {
+    let Some(folder) = std::env::var_os(FOLDER) else {
+        println!("skipped: {FOLDER} names no folder");
+        return;
+    };
+    let mut played = 0;
+    for entry in std::fs::read_dir(folder).expect("the folder") {
+        let script = entry.expect("an entry").path();
+        let answers = script.with_extension("answers");
+        if script.extension().is_some_and(|end| end == "script") && answers.exists() {
+            compare(&script, &answers);
+            println!("{} agrees", script.display());
+            played += 1;
+        }
+    }
+    assert!(played > 0, "no script in the folder");
+}
