@@ -1,0 +1,54 @@
+-- At the end of the list the rows that stand are in the buffers.
+use mathlib.Core.Path.{_≡_, ap, subst, _∙_}
+use mathlib.Core.List.{List}
+use Prim.Native.Nat.{ℕ, _*_, _≤_}
+use native.Mathlib.Omega.{arith}
+use lib.ListN.{length}
+use Rattle.model.specs.Tables.{Contract, contract}
+use Rattle.model.specs.Answers.{Answer}
+use Rattle.model.specs.Checking.{check}
+use Rattle.kind_lists.specs.Listing.{clearedFrom}
+use Rattle.kind_lists.specs.Steps.{Outcome}
+use Rattle.kind_lists.specs.Between.{Passed}
+use Rattle.kind_lists.specs.Closing.{rowsStanding, answerAfter, Gives, closes}
+use Rattle.kind_lists.specs.declared.loops.Progress.{Progress}
+use Rattle.kind_lists.specs.declared.loops.Progress.the-variants as progress
+
+abbrev pub Ended : (C : Contract) (limit : ℕ) (rows words : List ℕ) → Progress → Type 0
+Ended C limit rows words p = Outcome C (λ n. Passed C limit n rows words) limit rows words p
+
+pub record Stands (limit standing : ℕ) (rows words : List ℕ) : Type 0 where
+  pub few : limit ≤ 512
+  pub fits : standing ≤ limit
+  pub rowRoom : length rows ≡ 3 * limit
+  pub wordRoom : length words ≡ 5 * limit
+
+pub stands : (C : Contract) (limit : ℕ) (rows words : List ℕ) (p : Progress) → Ended C limit rows words p → Stands limit (rowsStanding p) rows words
+stands C limit rows words (progress.Going n) o =
+    let h = o .holds in let k = o .counted in
+    record { few = h .few; fits = omega (arith, h .fits); rowRoom = h .rowRoom; wordRoom = h .wordRoom }
+stands C limit rows words (progress.Breaks j) o =
+    let h = o .holds in let k = o .last in
+    record { few = h .few; fits = omega (arith, h .fits); rowRoom = h .rowRoom; wordRoom = h .wordRoom }
+stands C limit rows words progress.Full o = record { few = o .few; fits = omega arith; rowRoom = o .rowRoom; wordRoom = o .wordRoom }
+
+-- .. of the contract with the same states
+pub ended-at-states : (S I states o : ℕ) (counts inputRows inputMarks table outputMarks nodes rules : List ℕ) (limit : ℕ) (rows words : List ℕ) (p : Progress)
+    → o ≡ states → Ended (contract S I o counts inputRows inputMarks table outputMarks nodes rules) limit rows words p
+    → Ended (contract S I states counts inputRows inputMarks table outputMarks nodes rules) limit rows words p
+ended-at-states S I states o counts inputRows inputMarks table outputMarks nodes rules limit rows words p e x =
+    subst (λ (k : ℕ). Ended (contract S I k counts inputRows inputMarks table outputMarks nodes rules) limit rows words p) e x
+
+-- .. and cleared after them the buffers are those of the check
+pub ended-gives : (C : Contract) (limit : ℕ) (rows words : List ℕ) (p : Progress) → Ended C limit rows words p
+    → (standing : ℕ) → standing ≡ rowsStanding p
+    → (rows′ words′ : List ℕ) → rows′ ≡ clearedFrom rows (3 * standing) → words′ ≡ clearedFrom words (5 * standing)
+    → (answer : Answer) → answer ≡ answerAfter limit p
+    → Gives (check C limit) answer rows′ words′
+ended-gives C limit rows words p o standing es rows′ words′ er ew answer ea =
+    let g = closes C limit rows words p o in
+    record {
+      answered = ea ∙ g .answered;
+      rowsClosed = er ∙ ap (λ (k : ℕ). clearedFrom rows (3 * k)) es ∙ g .rowsClosed;
+      wordsClosed = ew ∙ ap (λ (k : ℕ). clearedFrom words (5 * k)) es ∙ g .wordsClosed;
+    }

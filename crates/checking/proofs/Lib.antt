@@ -1,0 +1,9 @@
+-- Lemmas of the proofs: masks that show all, the words of marks, the first row, the sizes of the buffers and the answers.
+pub mod FullMasks
+pub mod MarkWords
+pub mod FirstRow
+pub mod Sizes
+pub mod Ending
+pub mod Answering
+pub mod Preparing
+pub mod Conclusions

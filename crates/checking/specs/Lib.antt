@@ -1,0 +1,2 @@
+-- What a check comes to, step by step.
+pub mod Steps

@@ -1,0 +1,312 @@
+-- The facts that a symbol can see on a side: those of the procedures that the nodes which its rules reach call there.
+use mathlib.Core.Path.{_≡_, refl, ap, sym, subst, _∙_}
+use mathlib.Core.List.{List, [], _∷_}
+use mathlib.Core.Bool.{Bool, true, false, _&&_}
+use Prim.Native.Nat.{ℕ, zero, suc, _+_, _*_, _-_, _/_, _%_, _^_, _<_, _≤_}
+use native.Mathlib.Nat.{not-suc-le-zero, pow-zero, pow-suc, mul-comm, mul-le-mul}
+use native.Mathlib.Omega.{arith}
+use native.Mathlib.Decide.{ℕ-discrete}
+use borrow.Author.Tests.{eq-eqb, ne-eqb, eqb-true}
+use lib.Bits.{bitOr}
+use lib.Dec.{eqb}
+use lib.ListN.{length, getD, replicate}
+use lib.Pow.{pow-pos, pow-mono}
+use Rattle.foundation.specs.Tests.{choose, _or_, or-left, or-right, true-test, test-true, false-test}
+use Rattle.foundation.specs.Words.{bit}
+use Rattle.foundation.specs.Bits.{bit-shl, bit-ones, bit-or}
+use Rattle.model.specs.Tables.{Contract, Node, nodeAt, nodeCount, ruleAt, countOf}
+use Rattle.model.specs.Expressions.{Child, left, right, childOf, Expression, argumentsOf, expression}
+use Rattle.model.specs.Facts.{offset}
+use Rattle.model.specs.Admission.{references}
+use Rattle.model.proofs.Laws.Established.{Established, GoodNode, good-parameter, good-nothing, good-symbol, good-call}
+use Rattle.model.proofs.Laws.Expressions.{expression-parameter, expression-nothing, expression-symbol, expression-call}
+use Rattle.model.proofs.Laws.Facts.{offset-next}
+use Rattle.kind_words.specs.Blocks.{withBlock, Holds, block-holds, nothing-holds}
+use Rattle.kind_words.specs.Listed.{Before, ListOf}
+use Rattle.kind_words.specs.Called.{OffsetsIn}
+use Rattle.kind_words.specs.Kind.{ListsFor, listed, lanes-fit}
+use Rattle.classes.specs.Agreement.{EachCall, EachCallOfAll}
+use Rattle.classes.specs.Masks.{ShowsFacts}
+use Rattle.kind_lists.specs.Marks.{maskIn}
+use Rattle.masks.specs.Seen.{sideOf, statesSeen, state-seen, Sees}
+
+-- as many ones as a procedure of that many parameters has facts
+abbrev pub onesFor : (O count : ℕ) → ℕ
+onesFor O count = 2 ^ (O ^ suc count) - 1
+
+-- a node calls a procedure on a side
+abbrev pub callsOn : Bool → Node → Bool
+callsOn onRight node = eqb (node .tag) 2 && eqb (node .child) (choose onRight 2 1)
+
+-- a node's call is of a procedure whose facts fit into a word and have their place in a kind
+pub record CallFits (O : ℕ) (counts offsets : List ℕ) (node : Node) : Type 0 where
+  pub least : 1 ≤ O
+  pub most : O ≤ 4
+  pub few : countOf counts (node .name) ≤ 2
+  pub procedures : length counts ≤ 16
+  pub named : node .tag ≡ 2 → node .name < length counts
+  pub near : node .tag ≡ 2 → getD offsets (node .name) 0 < 256
+
+-- a mask with the facts that a node calls on a side
+unfoldable pub withCall : (O : ℕ) (counts offsets : List ℕ) → Bool → Node → List ℕ → List ℕ
+withCall O counts offsets onRight node mask =
+    choose (callsOn onRight node) (withBlock mask (onesFor O (countOf counts (node .name))) (getD offsets (node .name) 0)) mask
+
+-- a mask shows the facts that the first n nodes of a list call on a side
+pub record Shown (O : ℕ) (counts nodes : List ℕ) (list : ℕ → ℕ) (onRight : Bool) (n : ℕ) (mask : List ℕ) : Type 0 where
+  pub facts : ℕ
+  pub holds : Holds mask facts
+  pub called : (i : ℕ) → i < n → callsOn onRight (nodeAt nodes (list i)) ≡ true → (k : ℕ)
+      → k < O ^ suc (countOf counts (nodeAt nodes (list i) .name))
+      → bit facts (offset O counts (nodeAt nodes (list i) .name) + k) ≡ true
+
+pub shown-none : (O : ℕ) (counts nodes : List ℕ) (list : ℕ → ℕ) (onRight : Bool) → Shown O counts nodes list onRight 0 (replicate 6 0)
+shown-none O counts nodes list onRight = record { facts = 0; holds = nothing-holds; called = λ i h. absurd (omega arith) }
+
+pub first-true : (a b : Bool) → (a && b) ≡ true → a ≡ true
+first-true true b e = refl
+first-true false b e = e
+
+or-true-left : (a b : Bool) → a ≡ true → (a or b) ≡ true
+or-true-left a b e = test-true _ (or-left a b (true-test a e))
+
+or-true-right : (a b : Bool) → b ≡ true → (a or b) ≡ true
+or-true-right a b e = test-true _ (or-right a b (true-test b e))
+
+some-power : (O k : ℕ) → 1 ≤ O → 1 ≤ O ^ k
+some-power O zero h = rw pow-zero (omega arith)
+some-power O (suc k) h = rw pow-suc (mul-le-mul (some-power O k h) h)
+
+pub ones-double : (w : ℕ) → 1 ≤ w → (2 ^ (w - 1) - 1) * 2 + 1 ≡ 2 ^ w - 1
+ones-double zero h = absurd (omega arith)
+ones-double (suc w) h =
+    let e : suc w - 1 ≡ w = omega arith in
+    let d : 2 ^ suc w ≡ 2 ^ w * 2 = pow-suc 2 w in
+    rw (e, d) (omega (arith, pow-pos w))
+
+pub ones-room : (w : ℕ) → 1 ≤ w → w ≤ 64 → (2 ^ (w - 1) - 1) * 2 + 1 < 2 ^ 64
+ones-room w h l = let p : 2 ^ w ≤ 2 ^ 64 = pow-mono {i = w} {j = 64} l in rw (ones-double w h) (omega (arith, pow-pos w))
+
+pub square-small : (n : ℕ) → n ≤ 4 → n * n ≤ 64
+square-small n h = let m : n * n ≤ 4 * 4 = mul-le-mul h h in omega arith
+
+pub width-between : (O count : ℕ) → 1 ≤ O → O ≤ 4 → count ≤ 2 → (1 ≤ O ^ count * O) × (O ^ count * O ≤ 64)
+width-between O count h l k =
+    (rw (← pow-suc O count) (some-power O (suc count) h), rw (mul-comm (O ^ count) O) (lanes-fit O count h l k))
+
+-- one node more
+module _ (C : Contract) (known : Established C) where
+  abbrev O : ℕ
+  O = C .output .states
+
+  abbrev counts : List ℕ
+  counts = C .transformation .counts
+
+  abbrev nodes : List ℕ
+  nodes = C .transformation .nodes
+
+  pub called-known : (n : ℕ) → n < nodeCount nodes → nodeAt nodes n .tag ≡ 2 → nodeAt nodes n .name < length counts
+  called-known n h t = go (known .node n h)
+    where
+      go : GoodNode (C .transformation .symbols) counts n (nodeAt nodes n) → nodeAt nodes n .name < length counts
+      go (good-parameter e a b) = absurd (omega arith)
+      go (good-nothing e z) = absurd (omega arith)
+      go (good-symbol e a b x y) = absurd (omega arith)
+      go (good-call e p c x y) = p
+
+  pub ones-small : (count : ℕ) → count ≤ 2 → O ^ suc count ≤ 64
+  ones-small count h = rw (pow-suc, mul-comm (O ^ count) O) (lanes-fit O count (known .outputStates .least≤) (known .outputStates .≤most) h)
+
+  pub shown-more : (offsets : List ℕ) → OffsetsIn C offsets → (list : ℕ → ℕ) (onRight : Bool) (i : ℕ) (mask : List ℕ) → list i < nodeCount nodes
+      → Shown O counts nodes list onRight i mask
+      → Shown O counts nodes list onRight (i + 1) (withCall O counts offsets onRight (nodeAt nodes (list i)) mask)
+  unfolding withCall
+  shown-more offsets places list onRight i mask h s = go (callsOn onRight (nodeAt nodes (list i))) refl
+    where
+      go : (b : Bool) → callsOn onRight (nodeAt nodes (list i)) ≡ b
+          → Shown O counts nodes list onRight (i + 1)
+          (choose b (withBlock mask (onesFor O (countOf counts (nodeAt nodes (list i) .name))) (getD offsets (nodeAt nodes (list i) .name) 0)) mask)
+      go false e = record { facts = s .facts; holds = s .holds; called = λ j l t. old j t (ℕ-discrete j i) l }
+        where
+          old : (j : ℕ) → callsOn onRight (nodeAt nodes (list j)) ≡ true → Dec (j ≡ i) → j < i + 1 → (k : ℕ)
+              → k < O ^ suc (countOf counts (nodeAt nodes (list j) .name))
+              → bit (s .facts) (offset O counts (nodeAt nodes (list j) .name) + k) ≡ true
+          old j t (yes q) l = absurd (false-test true (sym t ∙ ap (λ (m : ℕ). callsOn onRight (nodeAt nodes (list m))) q ∙ e) tt)
+          old j t (no nq) l = s .called j (omega arith) t
+      go true e =
+          let l : nodeAt nodes (list i) .name < length counts = called-known (list i) h (eqb-true _ _ (first-true _ _ e)) in
+          record {
+            facts = bitOr (s .facts) (block * 2 ^ from);
+            holds = block-holds mask (s .facts) block from (s .holds) (small l) (near l);
+            called = λ j hj t. more l j t (ℕ-discrete j i) hj;
+          }
+        where
+          block : ℕ
+          block = onesFor O (countOf counts (nodeAt nodes (list i) .name))
+
+          from : ℕ
+          from = getD offsets (nodeAt nodes (list i) .name) 0
+
+          small : nodeAt nodes (list i) .name < length counts → block < 2 ^ 64
+          small l =
+              let w : ℕ = O ^ suc (countOf counts (nodeAt nodes (list i) .name)) in
+              let p : 2 ^ w ≤ 2 ^ 64 = pow-mono {i = w} {j = 64} (ones-small _ (known .count _)) in
+              omega (arith, pow-pos w)
+
+          near : nodeAt nodes (list i) .name < length counts → from < 256
+          near l =
+              let e : from ≡ offset O counts (nodeAt nodes (list i) .name) = places _ l in
+              omega (arith, e, offset-next O counts (nodeAt nodes (list i) .name) l, known .facts, some-power O (suc (countOf counts (nodeAt nodes (list i) .name))) (known .outputStates .least≤))
+
+          more : nodeAt nodes (list i) .name < length counts → (j : ℕ) → callsOn onRight (nodeAt nodes (list j)) ≡ true → Dec (j ≡ i) → j < i + 1 → (k : ℕ)
+              → k < O ^ suc (countOf counts (nodeAt nodes (list j) .name))
+              → bit (bitOr (s .facts) (block * 2 ^ from)) (offset O counts (nodeAt nodes (list j) .name) + k) ≡ true
+          more l j t (no nq) hj k hk =
+              bit-or (s .facts) (block * 2 ^ from) (offset O counts (nodeAt nodes (list j) .name) + k)
+              ∙ or-true-left _ (bit (block * 2 ^ from) (offset O counts (nodeAt nodes (list j) .name) + k)) (s .called j (omega arith) t k hk)
+          more l j t (yes q) hj k hk =
+              let hi : k < O ^ suc (countOf counts (nodeAt nodes (list i) .name)) = subst (λ (m : ℕ). k < O ^ suc (countOf counts (nodeAt nodes (list m) .name))) q hk in
+              subst (λ (m : ℕ). bit (bitOr (s .facts) (block * 2 ^ from)) (offset O counts (nodeAt nodes (list m) .name) + k) ≡ true) (sym q)
+              (bit-or (s .facts) (block * 2 ^ from) (offset O counts (nodeAt nodes (list i) .name) + k)
+              ∙ or-true-right (bit (s .facts) (offset O counts (nodeAt nodes (list i) .name) + k)) _ (ap (λ (f : ℕ). bit (block * 2 ^ from) (f + k)) (sym (places (nodeAt nodes (list i) .name) l)) ∙ bit-shl block from k ∙ bit-ones (O ^ suc (countOf counts (nodeAt nodes (list i) .name))) k hi))
+
+-- what every listed call satisfies holds of each call of a listed node's expression
+module _ (S : ℕ) (counts nodes : List ℕ) (good : (n : ℕ) → n < nodeCount nodes → GoodNode S counts n (nodeAt nodes n)) (list : ℕ → ℕ) (n : ℕ)
+    (onList : ListOf counts nodes list n) (P : Child → ℕ → Type 0)
+    (all : (i : ℕ) → i < n → nodeAt nodes (list i) .tag ≡ 2 → P (childOf (nodeAt nodes (list i) .child)) (nodeAt nodes (list i) .name)) where
+  each-argument : (k : ℕ) (e f : Expression) → (1 ≤ k → EachCall P e) → (2 ≤ k → EachCall P f) → EachCallOfAll P (argumentsOf k e f)
+  each-argument zero e f a b = tt
+  each-argument (suc zero) e f a b = (a (omega arith), tt)
+  each-argument (suc (suc k)) e f a b = (a (omega arith), (b (omega arith), tt))
+
+  -- node m, where it stands at a place below i
+  abbrev Held : ℕ → Type 0
+  Held m = EachCall P (expression counts nodes m)
+
+  at-place : (i m : ℕ) → ((j : ℕ) → j < i → Held (list j)) → Before list i m → Held m
+  at-place i m h b = subst (λ (x : ℕ). Held x) (b .eq) (h (b .at) (b .less))
+
+  each-node : (i : ℕ) → i < n → ((j : ℕ) → j < i → Held (list j)) → GoodNode S counts (list i) (nodeAt nodes (list i)) → Held (list i)
+  each-node i l h (good-parameter t a b) = rw (expression-parameter counts nodes (list i) t) tt
+  each-node i l h (good-nothing t z) = rw (expression-nothing counts nodes (list i) t z) tt
+  each-node i l h (good-symbol t a b x y) =
+      let two : references counts (nodeAt nodes (list i)) ≡ 2 = rw (eq-eqb _ _ t, ne-eqb (nodeAt nodes (list i) .name) 0 (λ e. omega arith)) in
+      rw (expression-symbol counts nodes (list i) t a x y)
+      (at-place i _ h (onList .after i l .first (omega arith)), at-place i _ h (onList .after i l .second (omega arith)))
+  each-node i l h (good-call t p c x y) =
+      let many : references counts (nodeAt nodes (list i)) ≡ countOf counts (nodeAt nodes (list i) .name) = rw t in
+      rw (expression-call counts nodes (list i) t (record { first = x; second = y }))
+      (all i l t, each-argument (countOf counts (nodeAt nodes (list i) .name)) _ _ (λ k. at-place i _ h (onList .after i l .first (omega arith))) (λ k. at-place i _ h (onList .after i l .second (omega arith))))
+
+  each-below : (b i : ℕ) → i < b → i < n → Held (list i)
+  each-below zero i h l = absurd (not-suc-le-zero h)
+  each-below (suc b) i h l = each-node i l (λ j k. each-below b j (omega arith) (omega arith)) (good (list i) (onList .isNode i l))
+
+  pub each-listed : (m : ℕ) → Before list n m → Held m
+  each-listed m b = at-place n m (λ j l. each-below n j l l) b
+
+-- the mask of the states and facts that a symbol can see
+unfoldable pub joined : ℕ → List ℕ → List ℕ
+joined states facts = states ∷ getD facts 1 0 ∷ getD facts 2 0 ∷ getD facts 3 0 ∷ getD facts 4 0 ∷ 0 ∷ []
+
+pub joined-sees : (C : Contract) → Established C → (reached lengths : List ℕ)
+    → ListsFor (C .transformation .counts) (C .transformation .nodes) (C .transformation .rules) reached lengths
+    → (s : ℕ) → s < 16 → (onRight : Bool) (facts : List ℕ)
+    → Shown (C .output .states) (C .transformation .counts) (C .transformation .nodes) (listed reached s) onRight (getD lengths s 0) facts
+    → Sees C s onRight (maskIn (joined (statesSeen (C .input .rows) s onRight) facts) 0)
+unfolding joined
+joined-sees C known reached lengths lists s h onRight facts shown =
+    record {
+      calls = λ r l e.
+          each-listed (C .transformation .symbols) (C .transformation .counts) (C .transformation .nodes) (known .node) (listed reached s) (getD lengths s 0)
+          (lists .list s h) _ calls (ruleAt (C .transformation .rules) r .node)
+          (subst (λ (x : ℕ). Before (listed reached x) (getD lengths x 0) (ruleAt (C .transformation .rules) r .node)) e (lists .onList r l));
+      states = λ k l e. state-seen (C .input .rows) s onRight k l e;
+    }
+  where
+    word : (w : ℕ) → w < 4 → getD (maskIn (joined (statesSeen (C .input .rows) s onRight) facts) 0) (1 + w) 0 ≡ getD facts (1 + w) 0
+    word zero l = refl
+    word (suc zero) l = refl
+    word (suc (suc zero)) l = refl
+    word (suc (suc (suc zero))) l = refl
+    word (suc (suc (suc (suc w)))) l = absurd (omega arith)
+
+    child-on : (c : ℕ) (b : Bool) → 1 ≤ c → c ≤ 2 → childOf c ≡ sideOf b → eqb c (choose b 2 1) ≡ true
+    child-on zero b l m e = absurd (omega arith)
+    child-on (suc zero) false l m e = refl
+    child-on (suc zero) true l m e = absurd (apart e)
+      where
+        apart : left ≡ right → ⊥
+        apart e = subst (λ (c : Child). side c) e tt
+          where
+            side : Child → Type 0
+            side left = Unit {0}
+            side right = ⊥
+    child-on (suc (suc zero)) true l m e = refl
+    child-on (suc (suc zero)) false l m e = absurd (apart e)
+      where
+        apart : right ≡ left → ⊥
+        apart e = subst (λ (c : Child). side c) e tt
+          where
+            side : Child → Type 0
+            side right = Unit {0}
+            side left = ⊥
+    child-on (suc (suc (suc c))) b l m e = absurd (omega arith)
+
+    on-side : (n : ℕ) → n < nodeCount (C .transformation .nodes) → nodeAt (C .transformation .nodes) n .tag ≡ 2
+        → childOf (nodeAt (C .transformation .nodes) n .child) ≡ sideOf onRight
+        → callsOn onRight (nodeAt (C .transformation .nodes) n) ≡ true
+    on-side n l t e = go (known .node n l)
+      where
+        go : GoodNode (C .transformation .symbols) (C .transformation .counts) n (nodeAt (C .transformation .nodes) n)
+            → callsOn onRight (nodeAt (C .transformation .nodes) n) ≡ true
+        go (good-parameter e a b) = absurd (omega arith)
+        go (good-nothing e z) = absurd (omega arith)
+        go (good-symbol e a b x y) = absurd (omega arith)
+        go (good-call u p c x y) = rw (eq-eqb _ _ t) (child-on (nodeAt (C .transformation .nodes) n .child) onRight (c .least≤) (c .≤most) e)
+
+    calls : (i : ℕ) → i < getD lengths s 0 → nodeAt (C .transformation .nodes) (listed reached s i) .tag ≡ 2
+        → childOf (nodeAt (C .transformation .nodes) (listed reached s i) .child) ≡ sideOf onRight
+        → ShowsFacts (C .output .states) (C .transformation .counts) (maskIn (joined (statesSeen (C .input .rows) s onRight) facts) 0)
+        (nodeAt (C .transformation .nodes) (listed reached s i) .name)
+    calls i l t e =
+        let n : ℕ = listed reached s i in
+        let p : ℕ = nodeAt (C .transformation .nodes) (listed reached s i) .name in
+        let isNode = lists .list s h .isNode i l in
+        let is : p < length (C .transformation .counts) = called-known C known n isNode t in
+        record {
+          fact = λ k hk.
+              let f : ℕ = offset (C .output .states) (C .transformation .counts) p + k in
+              let low : f < 256 = omega (arith, offset-next (C .output .states) (C .transformation .counts) p is, known .facts) in
+              ap (λ (x : ℕ). bit x (f % 64)) (word (f / 64) (omega arith)) ∙ shown .holds .bits f (omega arith) ∙ shown .called i l (on-side n isNode t e) k hk;
+        }
+
+-- what the masks are made from: an admitted contract, its procedures' offsets, and the nodes that each symbol's rules reach
+pub record Placed (C : Contract) (offsets reached lengths : List ℕ) : Type 0 where
+  pub established : Established C
+  pub places : OffsetsIn C offsets
+  pub lists : ListsFor (C .transformation .counts) (C .transformation .nodes) (C .transformation .rules) reached lengths
+
+pub call-fits : (C : Contract) → Established C → (offsets : List ℕ) → OffsetsIn C offsets → (n : ℕ) → n < nodeCount (C .transformation .nodes)
+    → CallFits (C .output .states) (C .transformation .counts) offsets (nodeAt (C .transformation .nodes) n)
+call-fits C known offsets places n h =
+    record {
+      least = known .outputStates .least≤;
+      most = known .outputStates .≤most;
+      few = known .count _;
+      procedures = known .procedures .≤most;
+      named = called-known C known n h;
+      near = λ t. near (called-known C known n h t);
+    }
+  where
+    near : nodeAt (C .transformation .nodes) n .name < length (C .transformation .counts) → getD offsets (nodeAt (C .transformation .nodes) n .name) 0 < 256
+    near l =
+        let p : ℕ = nodeAt (C .transformation .nodes) n .name in
+        let e : getD offsets p 0 ≡ offset (C .output .states) (C .transformation .counts) p = places p l in
+        omega (
+          arith,
+          e,
+          offset-next (C .output .states) (C .transformation .counts) p l,
+          known .facts,
+          some-power (C .output .states) (suc (countOf (C .transformation .counts) p)) (known .outputStates .least≤),
+        )
