@@ -1,4 +1,4 @@
-/* Goosedawn for C: contracts admitted, documents judged and transformed, trees written out.
+/* Goosedawn for C: contracts admitted and checked, documents judged and transformed, trees written out.
  *
  * Link with target/staticlib/libgoosedawn_c.a, which `rt staticlib goosedawn_c` proves and writes (x86-64).
  *
@@ -77,6 +77,17 @@ goosedawn_reply goosedawn_admit(GOOSEDAWN_CONTRACT);
  * no output outside the output type; 2, of the input type with such an output. */
 goosedawn_reply goosedawn_judge(GOOSEDAWN_CONTRACT, const uint16_t *numbers, size_t numbers_length, uint64_t *kind,
                                 size_t kind_length);
+
+/* Checks a contract for all documents at once, listing at most `limit` kinds of trees. Refusals 1 to 8, then
+ *   9   the limit is not 1 to 512, the row buffer not 3 x limit numbers, the word buffer not 5 x limit words: 0, 1, 2
+ * which write nothing. Otherwise
+ *   PASS  no document of the input type has an output outside the output type: rows and words of all kinds stand
+ *   TREE  the tree of the row breaks the contract, and no document of less height does: rows and words up to it stand;
+ *         goosedawn_write_out gives the document
+ *   refusal 10, the limit: there are more kinds than the limit and none of those listed breaks; both buffers are all 0
+ * A row is (symbol, left row, right row), a kind five words as in judging; the rest of both buffers is 0. */
+goosedawn_reply goosedawn_check(GOOSEDAWN_CONTRACT, size_t limit, uint16_t *rows, size_t rows_length, uint64_t *words,
+                                size_t words_length);
 
 /* Runs a contract's transformation on a document, taking for each call the first rule listed. Refusals 1 to 8, then
  *   9   the row buffer's length is no multiple of three or above 12288: 0

@@ -3,6 +3,7 @@ use mathlib.Core.Path.{_≡_}
 use mathlib.Core.List.{List}
 use Prim.Native.Nat.{ℕ}
 use Rattle.model.specs.Answers.{Answer, refusal, admitted, judged, pass, tree, ran, written}
+use Rattle.model.specs.Checking.{Checked}
 use Rattle.model.specs.Judging.{Judged}
 use Rattle.model.specs.Running.{Ran}
 use Rattle.model.specs.WritingOut.{Written}
@@ -29,3 +30,6 @@ Runs r rows result = (r ≡ replyOf (result .answer)) × (rows ≡ result .rows)
 
 abbrev pub Writes : Reply → (numbers : List ℕ) → Written → Type 0
 Writes r numbers result = (r ≡ replyOf (result .answer)) × (numbers ≡ result .numbers)
+
+abbrev pub Checks : Reply → (rows words : List ℕ) → Checked → Type 0
+Checks r rows words result = (r ≡ replyOf (result .answer)) × (rows ≡ result .rows) × (words ≡ result .words)

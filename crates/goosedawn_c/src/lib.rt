@@ -5,11 +5,12 @@
 ghost use mathlib.Core.Path.{_≡_};
 ghost use Rattle.model.specs.Tables.{contract};
 ghost use Rattle.model.specs.Admission as model;
+ghost use Rattle.model.specs.Checking.{checking};
 ghost use Rattle.model.specs.Judging.{judging};
 ghost use Rattle.model.specs.Running.{running};
 ghost use Rattle.model.specs.WritingOut.{writingOut};
 ghost use Rattle.answers.specs.Numbers.{contractRefusal, documentRefusal, admissionAnswer, judgingAnswer, checkingAnswer, runningAnswer, writingAnswer};
-ghost use Rattle.goosedawn_c.specs.Replies.{reply, replyOf, Judges, Runs, Writes};
+ghost use Rattle.goosedawn_c.specs.Replies.{reply, replyOf, Checks, Judges, Runs, Writes};
 use admission::admit;
 use answers::AdmissionAnswer;
 use answers::CheckingAnswer;
@@ -18,6 +19,7 @@ use answers::DocumentFault;
 use answers::JudgingAnswer;
 use answers::RunningAnswer;
 use answers::WritingAnswer;
+use checking::check;
 use judging::judge;
 use running::run;
 use writing::write_out;
@@ -204,6 +206,44 @@ pub extern "C" fn goosedawn_judge(
         kind,
     );
     judging_reply(answer)
+}
+
+// Checks a contract, listing at most so many kinds: rows and kinds of the trees listed go into the two buffers.
+#[no_mangle]
+pub extern "C" fn goosedawn_check(
+    symbols: usize,
+    input_states: usize,
+    output_states: usize,
+    counts: &[u16],
+    input_rows: &[u16],
+    input_marks: &[u16],
+    output_table: &[u16],
+    output_marks: &[u16],
+    nodes: &[u16],
+    rules: &[u16],
+    limit: usize,
+    rows: &mut [u16],
+    words: &mut [u64],
+) -> Reply
+    ensures { λ r. ⌜ Checks r (now (rows .exit)) (now (words .exit)) (checking (contract symbols «input_states» «output_states» (now (counts .entry)) (now («input_rows» .entry))
+        (now («input_marks» .entry)) (now («output_table» .entry)) (now («output_marks» .entry)) (now (nodes .entry)) (now (rules .entry))) limit (now (rows .entry)) (now (words .entry))) ⌝ }
+{
+    let answer = check(
+        symbols,
+        input_states,
+        output_states,
+        counts,
+        input_rows,
+        input_marks,
+        output_table,
+        output_marks,
+        nodes,
+        rules,
+        limit,
+        rows,
+        words,
+    );
+    checking_reply(answer)
 }
 
 // Runs a contract's transformation on a document; the rows of the tree go into the row buffer.

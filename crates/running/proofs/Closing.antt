@@ -1,9 +1,12 @@
 -- The end of the work: what the answer and the cleared buffer are of the outcome.
 use mathlib.Core.Path.{_≡_, refl, ap, sym, _∙_}
-use mathlib.Core.List.{List, []}
+use mathlib.Core.List.{List, [], _∷_}
+use mathlib.Core.Logic.{inl, inr}
 use Prim.Native.Nat.{ℕ, _-_}
 use native.Mathlib.Omega.{arith}
 use lib.ListN.{length, take, replicate}
+use types.Run.{OneOf}
+use denote.Enum.Declared.{tagOf}
 use Rattle.foundation.specs.Lists.{zeroFilled}
 use Rattle.model.specs.Rows.{rowCount}
 use Rattle.model.specs.Documents.{documentTree}
@@ -14,11 +17,16 @@ use Rattle.plans.specs.Plans.{SmallRules}
 use Rattle.model.proofs.Laws.Documents.{document-tree}
 use Rattle.running.specs.declared.Outcome.{Outcome}
 use Rattle.running.specs.declared.Outcome.the-variants.{Made, NoRule, NoRow, TooManyCalls}
-use Rattle.running.specs.Work.{stepOf, numbersKept, outcomeAnswer}
+use Rattle.running.specs.declared.Tally.{Tally}
+use Rattle.running.specs.declared.End.{End}
+use Rattle.running.specs.declared.End.the-variants.{Root, NoRule as NoRuleEnd, NoRow as NoRowEnd, TooManyCalls as TooManyCallsEnd}
+use Rattle.running.specs.declared.Ended.{Ended}
+use Rattle.running.specs.Work.{stepOf, endedOf, numbersKept, endAnswer}
+use Rattle.running.proofs.End.{the-type}
 use Rattle.running.specs.Contracts.{Admitted, Calls, Closes, transformationOf}
 
-module _ (n free : ℕ) where
-  closed-answer : (x : Outcome) (o : List ℕ) → closing n (stepOf free x o) .answer ≡ outcomeAnswer free x
+module _ (n free : ℕ) (before : Tally) where
+  closed-answer : (x : Outcome) (o : List ℕ) → closing n (stepOf free x o) .answer ≡ endAnswer free (endedOf before x .end) (endedOf before x .tally)
   unfolding closing
   closed-answer (Made row tally) o = refl
   closed-answer (NoRule procedure) o = refl
@@ -29,28 +37,46 @@ module _ (n free : ℕ) where
   unfolding zeroFilled
   none-kept o = let e : n - 0 ≡ n = omega arith in rw e
 
-  closed-rows : (x : Outcome) (o : List ℕ) → closing n (stepOf free x o) .rows ≡ zeroFilled n (take (numbersKept x) o)
+  closed-rows : (x : Outcome) (o : List ℕ) → closing n (stepOf free x o) .rows ≡ zeroFilled n (take (numbersKept (endedOf before x .end) (endedOf before x .tally)) o)
   unfolding closing
   closed-rows (Made row tally) o = refl
   closed-rows (NoRule procedure) o = none-kept o
   closed-rows NoRow o = none-kept o
   closed-rows TooManyCalls o = none-kept o
 
+abbrev pub Refused : End → Type 0
+Refused x = OneOf (1 ∷ 2 ∷ 3 ∷ []) (tagOf the-type x)
+
+root-not-refused : (root : ℕ) → Refused (Root root) → ⊥
+root-not-refused root (inl e) = omega arith
+root-not-refused root (inr (inl e)) = omega arith
+root-not-refused root (inr (inr e)) = omega arith
+
+-- a refusal keeps nothing of the buffer
+pub refused-keeps : (x : End) (tally : Tally) → Refused x → numbersKept x tally ≡ 0
+refused-keeps (Root root) tally h = absurd (root-not-refused root h)
+refused-keeps (NoRuleEnd procedure) tally h = refl
+refused-keeps NoRowEnd tally h = refl
+refused-keeps TooManyCallsEnd tally h = refl
+
 module _ (counts nodes rules numbers buffer : List ℕ) (x : Outcome) (left : List ℕ)
     (called : Calls counts nodes rules numbers 0 0 0 0 buffer (record { used = 0; calls = 0 }) x left) where
   abbrev free : ℕ
   free = rowCount buffer
 
+  abbrev work : Ended
+  work = endedOf (record { used = 0; calls = 0 }) x
+
   ran-to : (S : ℕ) → run (transformationOf counts nodes rules S) free (documentTree numbers) ≡ stepOf free x left
   unfolding run
   ran-to S = rw (document-tree numbers) (called S free [] refl (record { one = refl; two = refl }))
 
-  pub closes : (r : RunningAnswer) (o : List ℕ) → runningAnswer r ≡ outcomeAnswer free x → o ≡ zeroFilled (length buffer) (take (numbersKept x) left)
+  pub closes : (r : RunningAnswer) (o : List ℕ) → runningAnswer r ≡ endAnswer free (work .end) (work .tally) → o ≡ zeroFilled (length buffer) (take (numbersKept (work .end) (work .tally)) left)
       → Closes counts nodes rules numbers buffer r o
   closes r o answered kept S =
       record {
-        answered = answered ∙ sym (closed-answer (length buffer) free x left) ∙ ap (λ (s : Step ℕ). closing (length buffer) s .answer) (sym (ran-to S));
-        left = kept ∙ sym (closed-rows (length buffer) free x left) ∙ ap (λ (s : Step ℕ). closing (length buffer) s .rows) (sym (ran-to S));
+        answered = answered ∙ sym (closed-answer (length buffer) free _ x left) ∙ ap (λ (s : Step ℕ). closing (length buffer) s .answer) (sym (ran-to S));
+        left = kept ∙ sym (closed-rows (length buffer) free _ x left) ∙ ap (λ (s : Step ℕ). closing (length buffer) s .rows) (sym (ran-to S));
       }
 
 -- the rules of an admitted transformation have room in a plan

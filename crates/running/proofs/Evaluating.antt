@@ -20,7 +20,7 @@ use Rattle.running.specs.declared.Tally.{Tally}
 use Rattle.running.specs.declared.Outcome.{Outcome}
 use Rattle.running.specs.declared.Outcome.the-variants.{Made, NoRule, NoRow, TooManyCalls}
 use Rattle.plans.specs.Plans.{planNode}
-use Rattle.running.specs.Work.{workOf, stepOf, parameterRow, operandCount, numbersKept}
+use Rattle.running.specs.Work.{workOf, stepOf, parameterRow, operandCount}
 use Rattle.running.specs.Contracts.{EvaluableIn, Evaluable, Applicable, Carries, childRuns, Evaluates, Applies, transformationOf}
 use Rattle.running.proofs.Outcome.{the-type}
 use Rattle.running.proofs.Steps.{step-parameter, step-none, step-one, step-two, first-smaller, second-smaller, first-quiet, second-quiet, call-not-quiet, call-good, parameter-name}
@@ -40,13 +40,6 @@ stops free (Made row tally) o k e h = absurd (made-not-refused row tally h)
 stops free (NoRule procedure) o k e h = rw e
 stops free NoRow o k e h = rw e
 stops free TooManyCalls o k e h = rw e
-
--- and keeps nothing of the buffer
-pub refused-keeps : (x : Outcome) → Refused x → numbersKept x ≡ 0
-refused-keeps (Made row tally) h = absurd (made-not-refused row tally h)
-refused-keeps (NoRule procedure) h = refl
-refused-keeps NoRow h = refl
-refused-keeps TooManyCalls h = refl
 
 goes : {s : Step ℕ} (a : ℕ) (w : Work) (k : ℕ → Work → Step ℕ) → s ≡ made a w → (s after k) ≡ k a w
 unfolding _after_

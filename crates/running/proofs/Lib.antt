@@ -5,3 +5,4 @@ pub mod Evaluating
 pub mod Calling
 pub mod Closing
 pub mod Admitting
+pub mod Lending

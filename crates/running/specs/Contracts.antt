@@ -21,9 +21,10 @@ use Rattle.model.proofs.Laws.Documents.{treeFrom}
 use Rattle.model.proofs.Laws.Established.{Between, GoodNode, GoodRule}
 use Rattle.running.specs.declared.Tally.{Tally}
 use Rattle.running.specs.declared.Outcome.{Outcome}
+use Rattle.running.specs.declared.Ended.{Ended}
 use Rattle.plans.specs.Plans.{Laid}
 use Rattle.running.specs.Places.{Children}
-use Rattle.running.specs.Work.{workOf, stepOf}
+use Rattle.running.specs.Work.{workOf, stepOf, endedOf}
 
 -- the tables of an admitted transformation
 pub record Admitted (counts nodes rules : List ℕ) : Type 0 where
@@ -130,6 +131,13 @@ module _ (plan : List ℕ) (place : ℕ) where
   CallsIn p first second buffer tally outcome closing =
       (asked : CallableIn plan place p)
       → Calls (asked .known .counts) (asked .known .nodes) (asked .known .rules) (asked .known .numbers) place p first second buffer tally outcome closing
+
+-- the promise of the whole work from a tally on: some outcome is that of calling procedure 0 on the whole document, and the
+-- end and the tally are that outcome's
+pub record StartsIn (plan buffer : List ℕ) (before : Tally) (r : Ended) (closing : List ℕ) : Type 0 where
+  pub outcome : Outcome
+  pub calls : CallsIn plan 0 0 0 0 buffer before outcome closing
+  pub ends : r ≡ endedOf before outcome
 
 -- an answer and a closing buffer are those of a run
 pub record EndsWith (ran : Ran) (answer : Answer) (buffer : List ℕ) : Type 0 where

@@ -10,6 +10,9 @@ use Rattle.model.specs.Running.{Work, Step, made, refused, mostCalls}
 use Rattle.running.specs.declared.Tally.{Tally}
 use Rattle.running.specs.declared.Outcome.{Outcome}
 use Rattle.running.specs.declared.Outcome.the-variants.{Made, NoRule, NoRow, TooManyCalls}
+use Rattle.running.specs.declared.End.{End}
+use Rattle.running.specs.declared.End.the-variants.{Root, NoRule as NoRuleEnd, NoRow as NoRowEnd, TooManyCalls as TooManyCallsEnd}
+use Rattle.running.specs.declared.Ended.{Ended}
 
 -- the work so far: the first rows of the buffer are the rows used
 abbrev pub workOf : Tally → List ℕ → Work
@@ -21,6 +24,13 @@ stepOf free (Made row tally) buffer = made row (workOf tally buffer)
 stepOf free (NoRule procedure) buffer = refused 13 (procedure .0)
 stepOf free NoRow buffer = refused 14 free
 stepOf free TooManyCalls buffer = refused 15 mostCalls
+
+-- an outcome as an end and a tally: that of the outcome, or where it is refused that with which the work began
+abbrev pub endedOf : Tally → Outcome → Ended
+endedOf before (Made root tally) = record { tally = tally; end = Root root }
+endedOf before (NoRule procedure) = record { tally = before; end = NoRuleEnd procedure }
+endedOf before NoRow = record { tally = before; end = NoRowEnd }
+endedOf before TooManyCalls = record { tally = before; end = TooManyCallsEnd }
 
 -- the row of parameter 1 or 2
 abbrev pub parameterRow : ℕ → ℕ → ℕ → ℕ
@@ -43,15 +53,15 @@ abbrev pub planChild : List ℕ → ℕ → ℕ → ℕ
 planChild plan place child = choose (eqb child 1) (place + 1) (getD plan (2575 + (place + 1)) 0)
 
 -- how many numbers of the buffer stand at the end
-abbrev pub numbersKept : Outcome → ℕ
-numbersKept (Made row tally) = 3 * tally .used
-numbersKept (NoRule procedure) = 0
-numbersKept NoRow = 0
-numbersKept TooManyCalls = 0
+abbrev pub numbersKept : End → Tally → ℕ
+numbersKept (Root root) tally = 3 * tally .used
+numbersKept (NoRuleEnd procedure) tally = 0
+numbersKept NoRowEnd tally = 0
+numbersKept TooManyCallsEnd tally = 0
 
 -- the answer, where so many rows are free at first
-abbrev pub outcomeAnswer : ℕ → Outcome → Answer
-outcomeAnswer free (Made row tally) = ran row (tally .used)
-outcomeAnswer free (NoRule procedure) = refusal 13 (procedure .0)
-outcomeAnswer free NoRow = refusal 14 free
-outcomeAnswer free TooManyCalls = refusal 15 mostCalls
+abbrev pub endAnswer : ℕ → End → Tally → Answer
+endAnswer free (Root root) tally = ran root (tally .used)
+endAnswer free (NoRuleEnd procedure) tally = refusal 13 (procedure .0)
+endAnswer free NoRowEnd tally = refusal 14 free
+endAnswer free TooManyCallsEnd tally = refusal 15 mostCalls

@@ -2,7 +2,8 @@
 //
 // Calling a procedure evaluates its right side, and evaluating calls procedures on the children: the place in the document
 // goes forward at each call, the node number falls at each evaluation. What the work reads stands in one plan, so that a step
-// of it is small.
+// of it is small. The steps take the tally by value and give it back; over them, `start_lent` takes it lent, and `start_anew`
+// lends it one.
 ghost use mathlib.Core.Path.{_≡_};
 ghost use Prim.Native.Nat.{_+_, _<_, _≤_};
 ghost use lib.ListN.{length, take};
@@ -13,9 +14,9 @@ ghost use Rattle.model.specs.Tables.{contract};
 ghost use Rattle.model.specs.Running.{addRow, running};
 ghost use Rattle.model.proofs.Laws.Established.{Between};
 ghost use Rattle.tables.specs.Tuples.{nodeOf};
-ghost use Rattle.running.specs.Work.{workOf, stepOf, parameterRow, planOperands, planChild, numbersKept, outcomeAnswer};
+ghost use Rattle.running.specs.Work.{workOf, stepOf, endedOf, parameterRow, planOperands, planChild, numbersKept, endAnswer};
 ghost use Rattle.running.specs.Places.{Children};
-ghost use Rattle.running.specs.Contracts.{transformationOf, EndsWith, afterAdmission, Admitted, Closes, EvaluableIn, ApplicableIn, CallableIn, EvaluatesIn, AppliesIn, CallsIn};
+ghost use Rattle.running.specs.Contracts.{transformationOf, EndsWith, afterAdmission, Admitted, Closes, EvaluableIn, ApplicableIn, CallableIn, EvaluatesIn, AppliesIn, CallsIn, StartsIn};
 use admission::admit;
 use answers::AdmissionAnswer;
 use answers::RunningAnswer;
@@ -48,6 +49,20 @@ pub enum Outcome {
     NoRow,
     // A call past the last that may be made.
     TooManyCalls,
+}
+
+// How the work ends: its root row, or a refusal.
+pub enum End {
+    Root(u16),
+    NoRule(Procedure),
+    NoRow,
+    TooManyCalls,
+}
+
+// How the work ends, and the tally that is then reached; where it is refused, the tally with which it began.
+pub struct Ended {
+    pub tally: Tally,
+    pub end: End,
 }
 
 fn wide(x: u16) -> usize
@@ -214,6 +229,59 @@ fn call(
     evaluate(plan, side, place, first, second, rows, counted)
 }
 
+// An outcome's end and tally, where the work began with this tally.
+fn end_with(before: Tally, outcome: Outcome) -> Ended
+    ensures { λ r. ⌜ r ≡ endedOf before outcome ⌝ }
+{
+    match outcome {
+        Outcome::Made(root, after) => Ended {
+            tally: after,
+            end: End::Root(root),
+        },
+        Outcome::NoRule(procedure) => Ended {
+            tally: before,
+            end: End::NoRule(procedure),
+        },
+        Outcome::NoRow => Ended {
+            tally: before,
+            end: End::NoRow,
+        },
+        Outcome::TooManyCalls => Ended {
+            tally: before,
+            end: End::TooManyCalls,
+        },
+    }
+}
+
+// Calls procedure 0 on the whole document: how it ends, and the tally brought forward.
+fn start(plan: &[u16; 3598], rows: &mut [u16], tally: Tally) -> Ended
+    requires { ⌜ CallableIn (now plan) 0 0 × (length (now rows) ≤ 12288) ⌝ }
+    ensures { λ r. ⌜ StartsIn (now (plan .entry)) (now (rows .entry)) tally r (now (rows .exit)) ⌝ }
+{
+    let outcome = call(plan, Procedure(0), 0, 0, 0, rows, tally);
+    end_with(tally, outcome)
+}
+
+// The same with the tally lent: it goes forward by value, and what comes back is stored.
+fn start_lent<'a, 'b, 'c>(plan: &'a [u16; 3598], rows: &'b mut [u16], tally: &'c mut Tally) -> End
+    requires { ⌜ CallableIn (now plan) 0 0 × (length (now rows) ≤ 12288) ⌝ }
+    ensures { λ r. ⌜ StartsIn (now (plan .entry)) (now (rows .entry)) (now (tally .entry)) (record { tally = now (tally .exit); end = r }) (now (rows .exit)) ⌝ }
+{
+    let next = start(plan, rows, *tally);
+    *tally = next.tally;
+    next.end
+}
+
+// The same with a tally of its own, lent to the work and read when it is back.
+fn start_anew<'a, 'b>(plan: &'a [u16; 3598], rows: &'b mut [u16]) -> Ended
+    requires { ⌜ CallableIn (now plan) 0 0 × (length (now rows) ≤ 12288) ⌝ }
+    ensures { λ r. ⌜ StartsIn (now (plan .entry)) (now (rows .entry)) (record { used = 0; calls = 0 }) r (now (rows .exit)) ⌝ }
+{
+    let mut tally = Tally { used: 0, calls: 0 };
+    let end = start_lent(plan, rows, &mut tally);
+    Ended { tally, end }
+}
+
 // Zeros a buffer from a place on.
 fn clear_from(rows: &mut [u16], from: usize)
     ensures { λ _. ⌜ now (rows .exit) ≡ zeroFilled (length (now (rows .entry))) (take from (now (rows .entry))) ⌝ }
@@ -226,24 +294,24 @@ fn clear_from(rows: &mut [u16], from: usize)
 }
 
 // How many numbers of the buffer stand at the end of the work.
-fn numbers_kept(outcome: Outcome) -> usize
-    ensures { λ r. ⌜ r ≡ numbersKept outcome ⌝ }
+fn numbers_kept(end: End, tally: Tally) -> usize
+    ensures { λ r. ⌜ r ≡ numbersKept end tally ⌝ }
 {
-    let Outcome::Made(_, tally) = outcome else {
+    let End::Root(_) = end else {
         return 0;
     };
     3 * wide(tally.used)
 }
 
-// The answer to the work's outcome, where so many rows are free at first.
-fn answer_of(outcome: Outcome, free: usize) -> RunningAnswer
-    ensures { λ r. ⌜ runningAnswer r ≡ outcomeAnswer free outcome ⌝ }
+// The answer to the work's end, where so many rows are free at first.
+fn answer_of(end: End, tally: Tally, free: usize) -> RunningAnswer
+    ensures { λ r. ⌜ runningAnswer r ≡ endAnswer free end tally ⌝ }
 {
-    match outcome {
-        Outcome::Made(root, tally) => RunningAnswer::Ran(wide(root), wide(tally.used)),
-        Outcome::NoRule(procedure) => RunningAnswer::NoRule(procedure),
-        Outcome::NoRow => RunningAnswer::NoRow(free),
-        Outcome::TooManyCalls => RunningAnswer::TooManyCalls,
+    match end {
+        End::Root(root) => RunningAnswer::Ran(wide(root), wide(tally.used)),
+        End::NoRule(procedure) => RunningAnswer::NoRule(procedure),
+        End::NoRow => RunningAnswer::NoRow(free),
+        End::TooManyCalls => RunningAnswer::TooManyCalls,
     }
 }
 
@@ -262,10 +330,11 @@ fn run_document(
     ensures { λ r. ⌜ Closes (now (counts .entry)) (now (nodes .entry)) (now (rules .entry)) (now (numbers .entry)) (now (rows .entry)) r (now (rows .exit)) ⌝ }
 {
     let table = plan(counts, nodes, rules, numbers, ends);
-    let begin = Tally { used: 0, calls: 0 };
-    let outcome = call(&table, Procedure(0), 0, 0, 0, rows, begin);
-    clear_from(rows, numbers_kept(outcome));
-    answer_of(outcome, rows.len() / 3)
+    let work = start_anew(&table, rows);
+    let end = work.end;
+    let tally = work.tally;
+    clear_from(rows, numbers_kept(end, tally));
+    answer_of(end, tally, rows.len() / 3)
 }
 
 // Runs an admitted transformation: the buffer is tested, then the document, and both are left as they are where they are

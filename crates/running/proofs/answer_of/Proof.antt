@@ -3,8 +3,8 @@ use borrow.Author.Needs.{needs}
 use Rattle.running.proofs.answer_of.Statement.{statement}
 use Rattle.running.proofs.answer_of.Tie as tie
 
-enum-known-outcome : tie.Need-enum-known-outcome
-enum-known-outcome c = search needs
+enum-known-end : tie.Need-enum-known-end
+enum-known-end c = search needs
 
 wide-requires : tie.Need-wide-requires
 wide-requires c κs = search needs
@@ -12,8 +12,8 @@ wide-requires c κs = search needs
 wide-requires-2 : tie.Need-wide-requires-2
 wide-requires-2 c κs = search needs
 
-enum-known-outcome-2 : tie.Need-enum-known-outcome-2
-enum-known-outcome-2 c = search needs
+enum-known-end-2 : tie.Need-enum-known-end-2
+enum-known-end-2 c = search needs
 
 enum-told : tie.Need-enum-told
 enum-told c = search needs
@@ -22,10 +22,10 @@ enum-told-2 : tie.Need-enum-told-2
 enum-told-2 c = search needs
 
 returns : tie.Need-returns
-returns c = rw (c .before .before .before .outcome .given .1, c .before .wide .ensures, c .wide2 .ensures)
+returns c = rw (c .before .before .before .end .given .1, c .before .wide .ensures, c .wide2 .ensures)
 
 returns-2 : tie.Need-returns-2
-returns-2 c = rw (c .before .outcome2 .given .1)
+returns-2 c = rw (c .before .end2 .given .1)
 
 returns-3 : tie.Need-returns-3
 returns-3 c = rw (c .enum-told .given .1)
@@ -37,10 +37,10 @@ pub answer-of-spec : {M : Type 1} → statement M
 answer-of-spec =
     tie.close
     (tie.spec
-    enum-known-outcome
+    enum-known-end
     wide-requires
     wide-requires-2
-    enum-known-outcome-2
+    enum-known-end-2
     enum-told
     enum-told-2
     returns

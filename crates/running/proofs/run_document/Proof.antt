@@ -1,12 +1,13 @@
 -- `running::run_document` meets its contract: the outcome of calling procedure 0 at place 0 is the run's step, and clearing and
 -- answering are what closing does with it.
-use mathlib.Core.Path.{_≡_, ap, ap₂, _∙_}
+use mathlib.Core.Path.{_≡_, ap, ap₂, sym, _∙_}
 use Prim.Native.Nat.{ℕ, _/_}
 use native.Mathlib.Omega.{arith}
 use lib.ListN.{length, take}
 use denote.Ref.{now}
 use Rattle.foundation.specs.Lists.{zeroFilled}
-use Rattle.running.specs.Work.{outcomeAnswer}
+use Rattle.running.specs.declared.Ended.{Ended}
+use Rattle.running.specs.Work.{numbersKept, endAnswer}
 use Rattle.running.specs.Contracts.{CallableIn}
 use Rattle.running.proofs.Closing.{small-rules, closes}
 use Rattle.running.proofs.run_document.Statement.{statement}
@@ -17,8 +18,8 @@ plan-requires c κs =
     let tables = c .before .before .before .before .before .pre .0 in
     (small-rules tables, (tables .procedures .≤most, tables .nodesLong, c .before .before .before .before .before .pre .1 .0 .few))
 
-call-requires : tie.Need-call-requires
-call-requires c κs =
+start-anew-requires : tie.Need-start-anew-requires
+start-anew-requires c κs =
     let s = c .before .before .before .before .before .before .before .before .args in
     let asked : CallableIn (c .before .before .plan .result) 0 0 =
     record {
@@ -38,30 +39,33 @@ answer-of-requires : tie.Need-answer-of-requires
 answer-of-requires c κs = tt
 
 same-length : tie.Need-same-length
-same-length c = c .before .before .before .clear-from .kept .0 ∙ c .before .before .before .before .before .before .before .before .call .kept .1 .1 .1 .1 .1 .0
+same-length c = c .before .before .before .clear-from .kept .0 ∙ c .before .before .before .before .before .before .before .before .before .start-anew .kept .1 .0
 
 returns : tie.Need-returns
 returns c =
-    let s = c .before .before .before .before .before .before .before .before .before .before .before .before .before .before .before .before .before .args in
-    let asked : CallableIn (c .before .before .before .before .before .before .before .before .before .before .before .plan .result) 0 0 =
+    let s = c .before .before .before .before .before .before .before .before .before .before .before .before .before .before .before .before .before .before .args in
+    let asked : CallableIn (c .before .before .before .before .before .before .before .before .before .before .before .before .plan .result) 0 0 =
     record {
-      known = record { counts = s .counts .now; nodes = s .nodes .now; rules = s .rules .now; numbers = s .numbers .now; ends = now (s .ends); tables = c .before .before .before .before .before .before .before .before .before .before .before .before .before .before .before .before .before .pre .0; text = c .before .before .before .before .before .before .before .before .before .before .before .before .before .before .before .before .before .pre .1 .0; laid = c .before .before .before .before .before .before .before .before .before .before .before .plan .ensures };
-      inside = c .before .before .before .before .before .before .before .before .before .before .before .before .before .before .before .before .before .pre .1 .1 .0;
-      named = omega (arith, c .before .before .before .before .before .before .before .before .before .before .before .before .before .before .before .before .before .pre .0 .procedures .least≤);
+      known = record { counts = s .counts .now; nodes = s .nodes .now; rules = s .rules .now; numbers = s .numbers .now; ends = now (s .ends); tables = c .before .before .before .before .before .before .before .before .before .before .before .before .before .before .before .before .before .before .pre .0; text = c .before .before .before .before .before .before .before .before .before .before .before .before .before .before .before .before .before .before .pre .1 .0; laid = c .before .before .before .before .before .before .before .before .before .before .before .before .plan .ensures };
+      inside = c .before .before .before .before .before .before .before .before .before .before .before .before .before .before .before .before .before .before .pre .1 .1 .0;
+      named = omega (arith, c .before .before .before .before .before .before .before .before .before .before .before .before .before .before .before .before .before .before .pre .0 .procedures .least≤);
     } in
-    let same : length (c .before .before .before .before .before .before .before .before .call .last .1 .1 .1 .1 .1 .0) ≡ length (s .rows .now) = c .before .before .before .before .before .before .before .before .call .kept .1 .1 .1 .1 .1 .0 in
+    let work : Ended = c .before .before .before .before .before .before .before .before .before .start-anew .result in
+    let left = c .before .before .before .before .before .before .before .before .before .start-anew .last .1 .0 in
+    let starts = c .before .before .before .before .before .before .before .before .before .start-anew .ensures in
+    let same : length (c .before .before .before .before .before .before .before .before .before .start-anew .last .1 .0) ≡ length (s .rows .now) = c .before .before .before .before .before .before .before .before .before .start-anew .kept .1 .0 in
     let same₂ : length (c .before .before .before .clear-from .last .0) ≡ length (s .rows .now) = c .before .before .before .clear-from .kept .0 ∙ same in
-    closes (s .counts .now) (s .nodes .now) (s .rules .now) (s .numbers .now) (s .rows .now) (c .before .before .before .before .before .before .before .before .call .result) (c .before .before .before .before .before .before .before .before .call .last .1 .1 .1 .1 .1 .0) (c .before .before .before .before .before .before .before .before .call .ensures asked)
+    closes (s .counts .now) (s .nodes .now) (s .rules .now) (s .numbers .now) (s .rows .now) (starts .outcome) left (starts .calls asked)
     (c .answer-of .result) (c .before .before .before .clear-from .last .0)
-    (c .answer-of .ensures ∙ ap (λ (n : ℕ). outcomeAnswer (n / 3) (c .before .before .before .before .before .before .before .before .call .result)) same₂)
-    (c .before .before .before .clear-from .ensures ∙ ap₂ (λ (n m : ℕ). zeroFilled n (take m (c .before .before .before .before .before .before .before .before .call .last .1 .1 .1 .1 .1 .0))) same (c .before .before .before .before .numbers-kept .ensures))
+    (c .answer-of .ensures ∙ ap₂ (λ (n : ℕ) (w : Ended). endAnswer (n / 3) (w .end) (w .tally)) same₂ (starts .ends))
+    (c .before .before .before .clear-from .ensures ∙ ap₂ (λ (n m : ℕ). zeroFilled n (take m left)) same (c .before .before .before .before .numbers-kept .ensures ∙ ap (λ (w : Ended). numbersKept (w .end) (w .tally)) (starts .ends)))
 
 pub run-document-spec : {M : Type 1} → statement M
 run-document-spec =
     tie.close
     (tie.spec
     plan-requires
-    call-requires
+    start-anew-requires
     numbers-kept-requires
     clear-from-requires
     answer-of-requires

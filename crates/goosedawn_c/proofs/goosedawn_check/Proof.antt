@@ -1,0 +1,25 @@
+-- The reply is made of what checking promises, which leaves both buffers as they are to be.
+use mathlib.Core.Path.{_∙_, ap}
+use borrow.Author.Needs.{needs}
+use Rattle.goosedawn_c.specs.Replies.{replyOf}
+use Rattle.goosedawn_c.proofs.goosedawn_check.Statement.{statement}
+use Rattle.goosedawn_c.proofs.goosedawn_check.Tie as tie
+
+check-requires : tie.Need-check-requires
+check-requires c κs = search needs
+
+checking-reply-requires : tie.Need-checking-reply-requires
+checking-reply-requires c κs = search needs
+
+same-length : tie.Need-same-length
+same-length c = search needs
+
+same-length-2 : tie.Need-same-length-2
+same-length-2 c = search needs
+
+returns : tie.Need-returns
+returns c = (c .checking-reply .ensures ∙ ap replyOf (c .before .before .before .before .before .check .ensures .answered), c .before .before .before .before .before .check .ensures .rowsClosed, c .before .before .before .before .before .check .ensures .wordsClosed)
+
+pub goosedawn-check-spec : {M : Type 1} → statement M
+goosedawn-check-spec =
+    tie.close (tie.spec check-requires checking-reply-requires same-length same-length-2 returns)
