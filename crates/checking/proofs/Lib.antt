@@ -1,5 +1,4 @@
--- Lemmas of the proofs: masks that show all, the words of marks, the first row, the sizes of the buffers and the answers.
-pub mod FullMasks
+-- Lemmas of the proofs: the words of marks, the first row, the sizes of the buffers and the answers.
 pub mod MarkWords
 pub mod FirstRow
 pub mod Sizes

@@ -35,14 +35,14 @@ use kinds::empty_kind;
 use lanes::Layout;
 use layouts::layout_of;
 use layouts::offsets_of;
+use masks::all_masks;
 use reaching::reached_nodes;
 use tables::Symbol;
 
-// Masks that show all of every kind: five words a symbol.
-fn full_masks() -> [u64; 80]
-    ensures { λ r. ⌜ r ≡ replicate 80 18446744073709551615 ⌝ }
+fn no_masks() -> [u64; 80]
+    ensures { λ r. ⌜ r ≡ replicate 80 0 ⌝ }
 {
-    [18446744073709551615u64; 80]
+    [0u64; 80]
 }
 
 fn no_lists() -> [u16; 4096]
@@ -205,7 +205,25 @@ fn list_kinds(
     let Progress::Going(_) = step else {
         return step;
     };
-    let masks = full_masks();
+    let mut left_masks = no_masks();
+    let mut right_masks = no_masks();
+    all_masks(
+        symbols,
+        input_states,
+        layout.states,
+        counts,
+        input_rows,
+        input_marks,
+        output_table,
+        output_marks,
+        nodes,
+        rules,
+        offsets,
+        reached,
+        lengths,
+        &mut left_masks,
+        &mut right_masks,
+    );
     let mut lefts = no_marks();
     let mut rights = no_marks();
     all_rounds(
@@ -224,8 +242,8 @@ fn list_kinds(
         rules,
         verdicts,
         limit,
-        &masks,
-        &masks,
+        &left_masks,
+        &right_masks,
         &mut lefts,
         &mut rights,
         &mut hints,

@@ -1,9 +1,9 @@
--- The first row is that of the empty forest; masks of ones show all, and the rounds begin with no marks.
+-- The first row is that of the empty forest; the masks show what each symbol sees, and the rounds begin with no marks.
+use mathlib.Core.Path.{_∙_}
 use mathlib.Core.List.{[]}
 use Prim.Native.Nat.{ℕ}
 use lib.ListN.{length-replicate}
 use Rattle.kind_lists.proofs.Stops.{ends, goes}
-use Rattle.checking.proofs.FullMasks.{full-covered}
 use Rattle.checking.proofs.FirstRow.{one-row}
 use borrow.Author.Needs.{needs}
 use Rattle.checking.proofs.list_kinds.Statement.{statement}
@@ -27,8 +27,19 @@ same-length-2 c = search needs
 returns : tie.Need-returns
 returns c = ends _ _ _ _ _ _ (c .before .before .before .before .before .first-row .result) (c .match .keys2) (c .before .before .before .before .before .first-row .ensures [] [])
 
-full-masks-requires : tie.Need-full-masks-requires
-full-masks-requires c κs = search needs
+no-masks-requires : tie.Need-no-masks-requires
+no-masks-requires c κs = search needs
+
+no-masks-requires-2 : tie.Need-no-masks-requires-2
+no-masks-requires-2 c κs = search needs
+
+all-masks-requires : tie.Need-all-masks-requires
+all-masks-requires c κs =
+    let stage = c .before .before .before .before .before .before .before .before .before .before .before .before .before .before .before .before .before .before .before .before .before .before .before .before .pre .0 in (
+      record { established = stage .prepared .established; places = stage .prepared .place; lists = stage .prepared .lists },
+      rw (c .before .before .before .no-masks .ensures) (length-replicate {A = ℕ} 80 0),
+      rw (c .before .before .no-masks2 .ensures) (length-replicate {A = ℕ} 80 0),
+    )
 
 no-marks-requires : tie.Need-no-marks-requires
 no-marks-requires c κs = search needs
@@ -38,15 +49,20 @@ no-marks-requires-2 c κs = search needs
 
 all-rounds-requires : tie.Need-all-rounds-requires
 all-rounds-requires c κs =
-    let stage = c .before .before .before .before .before .before .before .before .before .before .before .before .before .before .before .before .before .before .before .before .before .before .before .before .before .before .before .before .before .before .pre .0 in
-    let begun = goes _ _ _ _ _ (c .before .before .before .before .before .before .before .before .before .before .before .before .before .before .before .before .first-row .result) _ (c .before .before .before .before .before .before .before .before .before .before .enum-told .given .1) (c .before .before .before .before .before .before .before .before .before .before .before .before .before .before .before .before .first-row .ensures _ _) in
-    (stage, rw (c .before .before .before .before .before .before .before .before .before .full-masks .ensures) (full-covered _ (stage .prepared .established)), rw (c .before .before .before .before .before .before .before .before .no-marks .ensures) (length-replicate {A = ℕ} 512 0), rw (c .before .before .before .before .before .before .before .no-marks2 .ensures) (length-replicate {A = ℕ} 512 0), one-row (begun .0) (begun .1))
+    let stage = c .before .before .before .before .before .before .before .before .before .before .before .before .before .before .before .before .before .before .before .before .before .before .before .before .before .before .before .before .before .before .before .before .before .before .pre .0 in
+    let begun = goes _ _ _ _ _ (c .before .before .before .before .before .before .before .before .before .before .before .before .before .before .before .before .before .before .before .before .first-row .result) _ (c .before .before .before .before .before .before .before .before .before .before .before .before .before .before .enum-told .given .1) (c .before .before .before .before .before .before .before .before .before .before .before .before .before .before .before .before .before .before .before .before .first-row .ensures _ _) in (
+      stage,
+      c .before .before .before .before .before .before .before .before .before .all-masks .ensures,
+      rw (c .before .before .before .before .before .before .before .before .no-marks .ensures) (length-replicate {A = ℕ} 512 0),
+      rw (c .before .before .before .before .before .before .before .no-marks2 .ensures) (length-replicate {A = ℕ} 512 0),
+      one-row (begun .0) (begun .1),
+    )
 
 same-length-3 : tie.Need-same-length-3
-same-length-3 c = search needs
+same-length-3 c = c .before .before .before .before .all-rounds .kept .1 .1 .1 .1 .1 .1 .1 .1 .1 .1 .1 .1 .1 .1 .1 .1 .1 .1 .1 .1 .0 ∙ c .before .before .before .before .before .before .before .before .before .before .before .before .before .before .before .before .before .before .before .before .before .before .before .before .before .first-row .kept .1 .1 .1 .1 .1 .1 .1 .1 .1 .1 .1 .1 .1 .1 .1 .1 .0
 
 same-length-4 : tie.Need-same-length-4
-same-length-4 c = search needs
+same-length-4 c = c .before .before .before .before .all-rounds .kept .1 .1 .1 .1 .1 .1 .1 .1 .1 .1 .1 .1 .1 .1 .1 .1 .1 .1 .1 .1 .1 .0 ∙ c .before .before .before .before .before .before .before .before .before .before .before .before .before .before .before .before .before .before .before .before .before .before .before .before .before .first-row .kept .1 .1 .1 .1 .1 .1 .1 .1 .1 .1 .1 .1 .1 .1 .1 .1 .1 .0
 
 returns-2 : tie.Need-returns-2
 returns-2 c = search needs
@@ -61,7 +77,9 @@ list-kinds-spec =
     same-length
     same-length-2
     returns
-    full-masks-requires
+    no-masks-requires
+    no-masks-requires-2
+    all-masks-requires
     no-marks-requires
     no-marks-requires-2
     all-rounds-requires
