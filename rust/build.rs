@@ -8,14 +8,9 @@ fn main() {
     let folder = Path::new(env!("CARGO_MANIFEST_DIR")).join("../target/staticlib");
     let archive = folder.join("libgoosedawn_c.a");
     println!("cargo:rerun-if-changed={}", archive.display());
-    println!("cargo:rustc-check-cfg=cfg(checking)");
-    let Ok(bytes) = std::fs::read(&archive) else {
+    if !archive.exists() {
         eprintln!("target/staticlib/libgoosedawn_c.a is missing: {MADE_BY}");
         std::process::exit(1);
-    };
-    let check = b"goosedawn_check";
-    if bytes.windows(check.len()).any(|name| name == check) {
-        println!("cargo:rustc-cfg=checking");
     }
     println!("cargo:rustc-link-search=native={}", folder.display());
     println!("cargo:rustc-link-lib=static=goosedawn_c");

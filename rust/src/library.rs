@@ -54,10 +54,6 @@ of_contract! {
     goosedawn_admit();
     goosedawn_judge(numbers: *const u16, number_count: usize, kind: *mut u64, kind_words: usize);
     goosedawn_run(numbers: *const u16, number_count: usize, rows: *mut u16, row_numbers: usize);
-}
-
-#[cfg(checking)]
-of_contract! {
     goosedawn_check(limit: usize, rows: *mut u16, row_numbers: usize, words: *mut u64, word_count: usize);
 }
 
@@ -105,11 +101,6 @@ impl Default for Library {
     }
 }
 
-impl Library {
-    /// Whether the archive that is linked has checking; without it the model stands in.
-    pub const CHECKS: bool = cfg!(checking);
-}
-
 impl Engine for Library {
     fn admit(&self, contract: &Contract) -> Answer {
         call!(goosedawn_admit, contract)
@@ -119,14 +110,8 @@ impl Engine for Library {
         call!(goosedawn_judge, contract, numbers.as_ptr(), numbers.len(), kind.as_mut_ptr(), kind.len())
     }
 
-    #[cfg(checking)]
     fn check(&self, contract: &Contract, limit: usize, rows: &mut [u16], words: &mut [u64]) -> Answer {
         call!(goosedawn_check, contract, limit, rows.as_mut_ptr(), rows.len(), words.as_mut_ptr(), words.len())
-    }
-
-    #[cfg(not(checking))]
-    fn check(&self, contract: &Contract, limit: usize, rows: &mut [u16], words: &mut [u64]) -> Answer {
-        crate::model::Model.check(contract, limit, rows, words)
     }
 
     fn run(&self, contract: &Contract, numbers: &[u16], rows: &mut [u16]) -> Answer {

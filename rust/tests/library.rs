@@ -118,9 +118,6 @@ fn sizes_and_row_numbers_of_every_width() {
 
 #[test]
 fn random_questions() {
-    if !Library::CHECKS {
-        println!("the library has no checking yet: of five questions one, the check, is asked of the model alone");
-    }
     let seeds = std::env::var(SEEDS).ok().and_then(|seeds| seeds.parse().ok()).unwrap_or(10);
     for seed in 1..=seeds {
         match compare(&Model, &Library::default(), seed, 1000) {

@@ -1,6 +1,8 @@
-//! Times the checks of a script: `bench FILE`. For each contract: its label, the answer, and the least time of some runs.
+//! Times the checks of a script: `bench FILE`. For each contract: its label and answer, the least time of some checks by the
+//! proved library and by the model, and their ratio.
 
 use goosedawn::engine::{Answer, Engine};
+use goosedawn::library::Library;
 use goosedawn::model::Model;
 use goosedawn::script::checks;
 use std::time::{Duration, Instant};
@@ -36,8 +38,19 @@ fn main() {
             std::process::exit(2);
         }
     };
+    println!("{:<16} {:<16} {:>12} {:>12} {:>7}", "contract", "answer", "proved us", "model us", "ratio");
     for (label, contract, limit) in checks(&script) {
-        let (answer, model) = time(&Model, &contract, usize::from(limit));
-        println!("{label}: {answer}, model {:.1} us", model.as_secs_f64() * 1e6);
+        let limit = usize::from(limit);
+        let (answer, proved) = time(&Library::default(), &contract, limit);
+        let (expected, model) = time(&Model, &contract, limit);
+        assert_eq!(answer, expected, "{label}");
+        let micros = |time: Duration| time.as_secs_f64() * 1e6;
+        let ratio = micros(proved) / micros(model);
+        println!(
+            "{label:<16} {:<16} {:>12.2} {:>12.2} {ratio:>7.3}",
+            answer.to_string(),
+            micros(proved),
+            micros(model)
+        );
     }
 }
