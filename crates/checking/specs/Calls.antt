@@ -11,9 +11,8 @@ use Rattle.model.specs.Tables.{Contract}
 use Rattle.model.specs.Answers.{Answer, pass, tree, refusal}
 use Rattle.model.specs.Checking.{Checked, standing, checking}
 use Rattle.model.specs.Claims.{Breaks, Admitted, OneTransformation, SameButMarks, Within}
-use Rattle.model.specs.Meaning.{TreeOf, NoTreeBreaks, kindRounds, PassMeans, FirstBreaks, LeastBreaking, StopMeans, OneOfThree}
+use Rattle.model.specs.Meaning.{TreeOf, NoTreeBreaks, kindRounds, PassMeans, FirstBreaks, LeastBreaking, StopMeans, Fits, OneOfThree}
 use Rattle.model.specs.Demand.{SameAnswer}
-use Rattle.model.proofs.Rounds.Stopping.{Fits}
 use Rattle.kind_lists.specs.Closing.{Gives}
 
 -- a call on a contract with a limit: the buffers that were lent, and the answer and closing buffers that came back, of which

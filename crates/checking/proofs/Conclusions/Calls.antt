@@ -12,7 +12,6 @@ use Rattle.model.specs.Checking.{Checked, rowNumbers, kindNumbers, standing, li
 use Rattle.model.specs.Meaning.{Lent, checkOf, PassMeans, FirstBreaks, StopMeans, OneOfThree, is-pass, is-tree, is-stop, CheckMeans}
 use Rattle.model.proofs.Laws.Answers.{then-fine-left, then-fine-right, refuse-first-fine, given-refused, NumbersTo, then-numbers, refuse-first-numbers}
 use Rattle.model.proofs.Laws.Admitted.{admission-numbers}
-use Rattle.model.proofs.Rounds.Stopping.{Fits}
 use Rattle.model.proofs.Meaning.Answers.{pass-not-tree, pass-not-refusal, tree-not-refusal}
 use Rattle.model.proofs.Meaning.Checks.{check-meaning}
 use Rattle.checking.specs.Calls.{Call, returned, LetIn, NotRefused, CallMeans}
@@ -37,18 +36,13 @@ module _ {C : Contract} {L : ℕ} (call : Call C L) where
   pub returned-is : returned call ≡ checking C L (call .rows) (call .words)
   returned-is = rw (call .gives .answered, call .gives .rowsClosed, call .gives .wordsClosed)
 
+  -- an answer that came back is the definition's
+  pub told : {answer : Answer} → call .answer ≡ answer → checking C L (call .rows) (call .words) .answer ≡ answer
+  told e = sym (call .gives .answered) ∙ e
+
   -- the limit and buffers of a call that is let in
   abbrev pub lent : LetIn call → Lent
-  lent good =
-      record {
-        limit = L;
-        atLeast = good .sizes .atLeast;
-        atMost = good .sizes .atMost;
-        rowBuffer = call .rows;
-        rowsFit = good .sizes .rows;
-        wordBuffer = call .words;
-        wordsFit = good .sizes .words;
-      }
+  lent good = record { limit = L; rowBuffer = call .rows; wordBuffer = call .words; fits = good .sizes }
 
   means : (good : LetIn call) → CheckMeans C (lent good)
   means good = check-meaning C (good .isAdmitted) (lent good)
@@ -144,7 +138,7 @@ module _ {C : Contract} {L : ℕ} (call : Call C L) where
       → ((good : LetIn call) → (checkOf C (lent good) .answer ≡ answer) ↔ A)
       → (call .answer ≡ answer) ↔ (LetIn call × A)
   exactly answer must means-it =
-      (λ e. (must e, means-it (must e) .0 (sym (call .gives .answered) ∙ e)), λ m. call .gives .answered ∙ means-it (m .0) .1 (m .1))
+      (λ e. (must e, means-it (must e) .0 (told e)), λ m. call .gives .answered ∙ means-it (m .0) .1 (m .1))
 
   pub call-meaning : CallMeans call
   call-meaning =
@@ -165,6 +159,3 @@ module _ {C : Contract} {L : ℕ} (call : Call C L) where
             let cleared : returned call ≡ standing C L (refusal 10 L) [] = returned-is ∙ means (stop-let-in place e) .stopRows (told (stopped-at place e)) in
             (ap (λ (c : Checked). c .rows) cleared ∙ stopped-cleared C L (refusal 10 L) .0, ap (λ (c : Checked). c .words) cleared ∙ stopped-cleared C L (refusal 10 L) .1);
       }
-    where
-      told : {answer : Answer} → call .answer ≡ answer → checking C L (call .rows) (call .words) .answer ≡ answer
-      told e = sym (call .gives .answered) ∙ e

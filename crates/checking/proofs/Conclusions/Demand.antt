@@ -1,21 +1,16 @@
 -- Demand 3 for calls: what the answers and closing buffers of two calls have to do with each other.
-use mathlib.Core.Path.{_≡_, sym, _∙_}
+use mathlib.Core.Path.{_≡_}
 use Prim.Native.Nat.{ℕ, suc, _≤_}
 use Rattle.model.specs.Tables.{Contract}
 use Rattle.model.specs.Answers.{Answer, pass, tree}
 use Rattle.model.specs.Checking.{checking}
 use Rattle.model.specs.Trees.{Tree}
-use Rattle.model.specs.Meaning.{TreeOf}
+use Rattle.model.specs.Meaning.{TreeOf, Fits}
 use Rattle.model.specs.Claims.{Breaks, OneTransformation, Within}
 use Rattle.model.specs.Demand.{SameAnswer}
-use Rattle.model.proofs.Rounds.Stopping.{Fits}
 use Rattle.model.proofs.Meaning.Demand.{over-first, breaks-first, demand-3}
 use Rattle.checking.specs.Calls.{Call, returned, LetIn, CallInclusion, CallDemand}
-use Rattle.checking.proofs.Conclusions.Calls.{returned-is, lent, pass-let-in, tree-let-in, call-meaning}
-
--- a first answer, of the definition
-told : {C : Contract} {L : ℕ} (call : Call C L) {answer : Answer} → call .answer ≡ answer → checking C L (call .rows) (call .words) .answer ≡ answer
-told call e = sym (call .gives .answered) ∙ e
+use Rattle.checking.proofs.Conclusions.Calls.{returned-is, told, lent, pass-let-in, tree-let-in, call-meaning}
 
 -- the same answer of two definitions is the same answer of two calls
 same-answer : {C D : Contract} {L M : ℕ} (first : Call C L) (second : Call D M) (answer : Answer) (n : ℕ)
