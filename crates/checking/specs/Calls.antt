@@ -15,8 +15,8 @@ use Rattle.model.specs.Meaning.{TreeOf, NoTreeBreaks, kindRounds, PassMeans, Fi
 use Rattle.model.specs.Demand.{SameAnswer}
 use Rattle.kind_lists.specs.Closing.{Gives}
 
--- a call on a contract with a limit: the buffers that were lent, and the answer and closing buffers that came back, of which
--- `check` promises `Gives`
+-- a call on a contract with a limit: the buffers that were lent, and the answer and closing buffers that came back. The answer
+-- is `checkingAnswer` of what `check` returned, and `gives` is what `check` promises.
 pub record Call (C : Contract) (L : ℕ) : Type 0 where
   pub rows : List ℕ
   pub words : List ℕ
