@@ -5,11 +5,10 @@ use mathlib.Core.Bool.{Bool, true, false, _||_, _&&_}
 use Prim.Native.Nat.{ℕ, zero, suc, _+_, _<_, _≤_, max}
 use native.Mathlib.Omega.{arith}
 use borrow.Author.Tests.{ne-eqb, leb-false}
-use borrow.Author.Count.{below-more}
 use lib.Dec.{eqb, ltb, leb}
 use lib.ListN.{length, getD, set}
-use lib.Seq.{getD-set-same, getD-set-other}
 use Rattle.foundation.specs.Tests.{choose, _or_}
+use Rattle.foundation.specs.Lists.{filled-more}
 use Rattle.model.specs.Tables.{Node, nodeAt, nodeCount, countOf, Rule}
 use Rattle.model.specs.Expressions.{Expression, expression, argumentsOf, greatestParameter, greatestOfAll, holdsCall}
 use Rattle.model.specs.Admission.{ruleWrong}
@@ -53,14 +52,6 @@ module _ (S : ℕ) (counts nodes : List ℕ) (k : ℕ) where
   call-good smaller known (good-symbol t a s l r) =
       rw (expression-symbol counts nodes k t a l r, t, ne-eqb (nodeAt nodes k .name) 0 (λ e. omega arith), known _ l, known _ r) (either (holdsCall (expression counts nodes (nodeAt nodes k .first))) _)
   call-good smaller known (good-call t p c l r) = rw (expression-call counts nodes k t (record { first = l; second = r }), t)
-
--- a table that is filled from the front: one more entry
-filled-more : {A : Type 0} (f : ℕ → A) (d : A) (l : List A) (k : ℕ) (v : A) → k < length l
-    → ((j : ℕ) → j < k → getD l j d ≡ f j)
-    → v ≡ f k
-    → (j : ℕ) → j < k + 1 → getD (set l k v) j d ≡ f j
-filled-more f d l k v h before here =
-    below-more _ k (λ j lt. getD-set-other l k j v d (λ e. omega arith) ∙ before j lt) (getD-set-same l k v d h ∙ here)
 
 -- the pass over the nodes: entry k is computed from those before it, and stands
 module _ (counts nodes : List ℕ) (good : GoodNodes counts nodes) (k : ℕ) (h : k < nodeCount nodes) where

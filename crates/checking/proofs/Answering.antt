@@ -6,35 +6,25 @@ use native.Mathlib.Omega.{arith}
 use lib.ListN.{length}
 use Rattle.foundation.specs.Search.{first}
 use Rattle.model.specs.Tables.{Contract}
-use Rattle.model.specs.Answers.{Verdict, fine, refused, refuseFirst, _then_, Answer, admitted, refusal, given}
+use Rattle.model.specs.Answers.{fine, Answer, refusal}
 use Rattle.model.specs.Admission.{admission, admit}
 use Rattle.model.specs.Checking.{Checked, limitWrong, check, checkingVerdict, checking}
-use Rattle.model.proofs.Laws.Answers.{refusal-admits-nothing, refuse-first-at, given-passed, given-refused}
+use Rattle.model.proofs.Laws.Answers.{refuse-first-at, given-passed, given-stopped, given-refused}
 use Rattle.model.proofs.Rounds.Stopping.{checking-check}
 use Rattle.answers.specs.Numbers.{contractRefusal}
 use Rattle.answers.specs.declared.ContractFault.{ContractFault}
-use Rattle.answers.specs.declared.ContractFault.the-variants as fault
+use Rattle.admission.proofs.Answered.{refused-as}
 use Rattle.kind_lists.specs.Listing.{Room}
 use Rattle.kind_lists.specs.Closing.{Gives}
 
-fault-refuses : (f : ContractFault) → contractRefusal f ≡ admitted → ⊥
-fault-refuses (fault.Size x) e = refusal-admits-nothing _ _ e
-fault-refuses (fault.Length x) e = refusal-admits-nothing _ _ e
-fault-refuses (fault.InputRow x) e = refusal-admits-nothing _ _ e
-fault-refuses (fault.Entry x) e = refusal-admits-nothing _ _ e
-fault-refuses (fault.Count x) e = refusal-admits-nothing _ _ e
-fault-refuses (fault.Node x) e = refusal-admits-nothing _ _ e
-fault-refuses (fault.Rule x) e = refusal-admits-nothing _ _ e
-fault-refuses (fault.Facts x) e = refusal-admits-nothing _ _ e
-
 module _ (C : Contract) (L : ℕ) (rows words : List ℕ) where
   pub refused-contract : (f : ContractFault) → contractRefusal f ≡ admit C → Gives (checking C L rows words) (contractRefusal f) rows words
-  unfolding checking checkingVerdict admit given _then_
-  refused-contract f e = go (admission C) refl
-    where
-      go : (v : Verdict) → admission C ≡ v → Gives (checking C L rows words) (contractRefusal f) rows words
-      go fine g = absurd (fault-refuses f (e ∙ rw g))
-      go (refused n p) g = record { answered = e ∙ rw g; rowsClosed = rw g; wordsClosed = rw g }
+  unfolding checking checkingVerdict admit
+  refused-contract f e =
+      let r = refused-as f (admission C) e in
+      let q : checking C L rows words ≡ record { answer = refusal (r .number) (r .place); rows = rows; words = words } =
+      given-stopped _ _ (admission C) _ (r .number) (r .place) (r .verdict) in
+      rw q (record { answered = r .says; rowsClosed = refl; wordsClosed = refl })
 
   pub refused-size : admission C ≡ fine → (place : ℕ) → place ≡ first (limitWrong C L (length rows) (length words)) 3 → place < 3
       → Gives (checking C L rows words) (refusal 9 place) rows words

@@ -1,2 +1,3 @@
--- What a check comes to, step by step.
+-- What a check comes to, step by step; and what a caller may conclude from calls.
 pub mod Steps
+pub mod Calls

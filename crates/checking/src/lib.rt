@@ -36,6 +36,8 @@ use lanes::Layout;
 use layouts::layout_of;
 use layouts::offsets_of;
 use masks::all_masks;
+use reaching::no_lengths;
+use reaching::no_lists;
 use reaching::reached_nodes;
 use tables::Symbol;
 
@@ -43,18 +45,6 @@ fn no_masks() -> [u64; 80]
     ensures { λ r. ⌜ r ≡ replicate 80 0 ⌝ }
 {
     [0u64; 80]
-}
-
-fn no_lists() -> [u16; 4096]
-    ensures { λ r. ⌜ r ≡ replicate 4096 0 ⌝ }
-{
-    [0u16; 4096]
-}
-
-fn no_lengths() -> [u16; 16]
-    ensures { λ r. ⌜ r ≡ replicate 16 0 ⌝ }
-{
-    [0u16; 16]
 }
 
 fn no_hints() -> [u16; 2048] {

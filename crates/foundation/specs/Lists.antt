@@ -1,11 +1,13 @@
--- Lists of numbers: lists that are filled with zeros to a length, and equality as a test.
-use mathlib.Core.Path.{_≡_, refl, ap, ap₂, sym, _∙_}
+-- Lists: those that are filled with zeros to a length, equality as a test, and tables that are filled entry by entry.
+use mathlib.Core.Path.{_≡_, refl, ap, ap₂, subst, sym, _∙_}
 use mathlib.Core.List.{List, [], _∷_, _++_}
 use mathlib.Core.Bool.{Bool, true, false}
 use Prim.Native.Nat.{ℕ, zero, suc, _+_, _-_, _≤_, _<_}
 use native.Mathlib.Omega.{arith}
+use native.Mathlib.Decide.{ℕ-discrete}
 use lib.Dec.{T}
-use lib.ListN.{length, replicate, length-append, length-replicate}
+use lib.ListN.{length, getD, set, replicate, length-append, length-replicate}
+use lib.Seq.{getD-set-same, getD-set-other}
 use Rattle.foundation.specs.Tests.{_and_, same, and-left, and-right, and-both, same-eq, eq-same}
 
 -- l, and then zeros up to n numbers
@@ -38,3 +40,19 @@ same-list-refl (x ∷ xs) = and-both _ _ (eq-same x x refl) (same-list-refl xs)
 pub append-nil : {A : Type 0} (l : List A) → l ++ [] ≡ l
 append-nil [] = refl
 append-nil (x ∷ l) = ap (λ m. x ∷ m) (append-nil l)
+
+-- a table of f's values, after one of them is stored: it holds those that it held before, and that one
+pub set-holds : {A : Type 0} (f : ℕ → A) (d : A) (l : List A) (k : ℕ) (v : A) → k < length l → v ≡ f k
+    → (j : ℕ) → ((j ≡ k → ⊥) → getD l j d ≡ f j) → getD (set l k v) j d ≡ f j
+set-holds {A} f d l k v h here j before = go (ℕ-discrete j k)
+  where
+    go : Dec (j ≡ k) → getD (set l k v) j d ≡ f j
+    go (yes e) = subst (λ (i : ℕ). getD (set l k v) i d ≡ f i) (sym e) (getD-set-same l k v d h ∙ here)
+    go (no ne) = getD-set-other l k j v d ne ∙ before ne
+
+-- a table that is filled from the front: one more entry
+pub filled-more : {A : Type 0} (f : ℕ → A) (d : A) (l : List A) (k : ℕ) (v : A) → k < length l
+    → ((j : ℕ) → j < k → getD l j d ≡ f j)
+    → v ≡ f k
+    → (j : ℕ) → j < k + 1 → getD (set l k v) j d ≡ f j
+filled-more f d l k v h before here j lt = set-holds f d l k v h here j (λ ne. before j (omega arith))

@@ -1,2 +1,3 @@
--- The numbers that a caller in C or Rust receives for each of document 01's answers.
+-- The numbers that a caller in C or Rust receives for each of document 01's answers, and what the caller may conclude from them.
 pub mod Replies
+pub mod Calls

@@ -14,11 +14,12 @@ use Rattle.model.specs.Admission.{admission, admit}
 use Rattle.model.specs.Judging.{Judged, judgement, judgingVerdict, judging}
 use Rattle.answers.specs.Numbers.{contractRefusal, documentRefusal}
 use Rattle.answers.specs.declared.ContractFault.{ContractFault}
-use Rattle.answers.specs.declared.ContractFault.the-variants as contract-fault
 use Rattle.answers.specs.declared.DocumentFault.{DocumentFault}
 use Rattle.answers.specs.declared.DocumentFault.the-variants as document-fault
 use Rattle.reading.specs.Answers.{faultVerdict}
+use Rattle.model.proofs.Laws.Answers.{given-stopped}
 use Rattle.model.proofs.Laws.Established.{Established}
+use Rattle.admission.proofs.Answered.{refused-as}
 use Rattle.model.proofs.Laws.Documents.{treeFrom, AllBelow, Document, some-number, document-tree}
 use Rattle.document_kinds.specs.Stored.{Symbols, kind-taken}
 use Rattle.model.specs.Trees.{Tree}
@@ -77,38 +78,19 @@ five-of (k ∷ l ∷ m ∷ n ∷ o ∷ []) (a ∷ b ∷ c ∷ d ∷ e ∷ f ∷ 
 five-of (k ∷ l ∷ m ∷ n ∷ o ∷ []) (a ∷ b ∷ c ∷ d ∷ e ∷ f ∷ x ∷ rest) h g = absurd (omega arith)
 five-of (k ∷ l ∷ m ∷ n ∷ o ∷ x ∷ rest) words h g = absurd (omega arith)
 
--- refusals 1 to 8 are refusals
-fault-refusal : (fault : ContractFault) → contractRefusal fault ≡ admitted → ⊥
-fault-refusal (contract-fault.Size x) e = let z : _≡_ {A = ℕ} 0 1 = cc in omega arith
-fault-refusal (contract-fault.Length x) e = let z : _≡_ {A = ℕ} 0 1 = cc in omega arith
-fault-refusal (contract-fault.InputRow x) e = let z : _≡_ {A = ℕ} 0 1 = cc in omega arith
-fault-refusal (contract-fault.Entry x) e = let z : _≡_ {A = ℕ} 0 1 = cc in omega arith
-fault-refusal (contract-fault.Count x) e = let z : _≡_ {A = ℕ} 0 1 = cc in omega arith
-fault-refusal (contract-fault.Node x) e = let z : _≡_ {A = ℕ} 0 1 = cc in omega arith
-fault-refusal (contract-fault.Rule x) e = let z : _≡_ {A = ℕ} 0 1 = cc in omega arith
-fault-refusal (contract-fault.Facts x) e = let z : _≡_ {A = ℕ} 0 1 = cc in omega arith
-
 -- an answer and the closing buffer
 pub record Comes (answer : Answer) (words : List ℕ) (to : Judged) : Type 0 where
   pub answers : answer ≡ to .answer
   pub closes : words ≡ to .words
 
-pub admitted-fine : (C : Contract) → admitted ≡ admit C → admission C ≡ fine
-unfolding admit given
-admitted-fine C e = go (admission C) refl e
-  where
-    go : (v : Verdict) → admission C ≡ v → admitted ≡ given v refusal admitted → v ≡ fine
-    go fine f e = refl
-    go (refused n p) f e = let z : _≡_ {A = ℕ} 0 1 = cc in absurd (omega arith)
-
 module _ (C : Contract) (numbers buffer : List ℕ) where
   pub refused-contract : (fault : ContractFault) → contractRefusal fault ≡ admit C → Comes (contractRefusal fault) buffer (judging C numbers buffer)
-  unfolding judging judgingVerdict admit given _then_
-  refused-contract fault e = go (admission C) refl
-    where
-      go : (v : Verdict) → admission C ≡ v → Comes (contractRefusal fault) buffer (judging C numbers buffer)
-      go fine f = absurd (fault-refusal fault (e ∙ rw f))
-      go (refused n p) f = record { answers = e ∙ rw f; closes = rw f }
+  unfolding judging judgingVerdict admit
+  refused-contract fault e =
+      let r = refused-as fault (admission C) e in
+      let q : judging C numbers buffer ≡ record { answer = refusal (r .number) (r .place); words = buffer } =
+      given-stopped _ _ (admission C) _ (r .number) (r .place) (r .verdict) in
+      rw q (record { answers = r .says; closes = refl })
 
   pub refused-buffer : admission C ≡ fine → (length buffer ≡ 5 → ⊥) → Comes (refusal 9 0) buffer (judging C numbers buffer)
   unfolding judging judgingVerdict given _then_ refuseIf

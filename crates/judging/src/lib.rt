@@ -3,7 +3,7 @@
 ghost use mathlib.Core.Path.{_≡_};
 ghost use mathlib.Core.List.{List};
 ghost use Prim.Native.Nat.{ℕ, _<_, _≤_};
-ghost use lib.ListN.{length, getD, take, replicate};
+ghost use lib.ListN.{length, getD, take};
 ghost use Rattle.model.specs.Tables.{contract};
 ghost use Rattle.model.specs.Documents.{mostNumbers};
 ghost use Rattle.model.specs.Judging.{judging};
@@ -22,21 +22,11 @@ use document_kinds::document_kind;
 use lanes::Layout;
 use layouts::layout_of;
 use layouts::offsets_of;
+use reaching::no_lengths;
+use reaching::no_lists;
 use reaching::reached_nodes;
 use reading::DocumentAnswer;
 use reading::document;
-
-fn no_lists() -> [u16; 4096]
-    ensures { λ r. ⌜ r ≡ replicate 4096 0 ⌝ }
-{
-    [0u16; 4096]
-}
-
-fn no_lengths() -> [u16; 16]
-    ensures { λ r. ⌜ r ≡ replicate 16 0 ⌝ }
-{
-    [0u16; 16]
-}
 
 // The kind of a document's tree, with all that is prepared for its contract.
 fn tree_kind(

@@ -1,8 +1,10 @@
--- Room in the buffers between two rounds.
+-- Between two rounds: there is room in the buffers, and some row stands.
 use mathlib.Core.List.{List}
-use Prim.Native.Nat.{ℕ}
+use Prim.Native.Nat.{ℕ, _<_}
 use native.Mathlib.Omega.{arith}
 use Rattle.model.specs.Tables.{Contract}
+use Rattle.model.specs.Rounds.{kindAutomaton}
+use Rattle.model.proofs.Rounds.Growth.{rounds-not-empty}
 use Rattle.kind_lists.specs.Listing.{Room}
 use Rattle.kind_lists.specs.Between.{Between}
 
@@ -11,3 +13,7 @@ pub between-room : {C : Contract} {limit before stood : ℕ} {lefts rights rows 
 between-room b =
     let h = b .holds in
     record { few = h .few; used = omega (arith, h .fits, b .stands); rowRoom = h .rowRoom; wordRoom = h .wordRoom }
+
+pub between-some : {C : Contract} {limit before stood : ℕ} {lefts rights rows words : List ℕ} → Between C limit before stood lefts rights rows words
+    → 0 < stood
+between-some {C} b = omega (arith, b .stands, rounds-not-empty (kindAutomaton C) (b .height))

@@ -5,7 +5,7 @@ use mathlib.Core.Logic.{_⊎_, inl, inr}
 use Prim.Native.Nat.{ℕ, _+_, _*_, _≤_, _<_}
 use native.Mathlib.Omega.{arith}
 use lib.ListN.{length}
-use mathlib.Core.Bool.{Bool, true, false}
+use mathlib.Core.Bool.{Bool, true, false, _&&_}
 use lib.Dec.{ltb}
 use borrow.Author.Tests.{ltb-true}
 use Rattle.foundation.specs.Tests.{choose}
@@ -74,6 +74,14 @@ module _ {C : Contract} {limit before stood : ℕ} {lefts rights : List ℕ} {s 
       go false q =
           let f : 0 ≡ r = sym (e ∙ rw q) in
           (subst (λ (x : ℕ). At C limit before stood lefts rights s i x n rows words) (z ∙ f) at, omega arith)
+
+-- a number below another, where that is the first of two tests
+pub first-below : (a b : ℕ) (u : Bool) → (ltb a b && u) ≡ true → a < b
+first-below a b u e = go (ltb a b) refl e
+  where
+    go : (t : Bool) → ltb a b ≡ t → (t && u) ≡ true → a < b
+    go true q e = ltb-true a b q
+    go false q e = ltb-true a b (q ∙ e)
 
 -- the row that breaks a contract is few
 pub standing-small : (p : Progress) (j : ℕ) → p ≡ progress.Breaks j → rowsStanding p < 65536 → j + 1 < 65536

@@ -180,12 +180,13 @@ pub fn offer(
     if listed(words, count, kind, hints) {
         return Offered::Old;
     }
+    let breaking = breaks(verdicts, kind);
     if count == limit {
         return Offered::Full;
     }
     store_row(rows, count, symbol, left, right);
     store_kind(words, count, kind);
-    if breaks(verdicts, kind) {
+    if breaking {
         return Offered::Breaks;
     }
     Offered::New

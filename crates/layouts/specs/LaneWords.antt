@@ -8,8 +8,7 @@ use native.Mathlib.Nat.{add-zero, mod-lt, pow-zero, one-le-pow, mod-eq-of-lt, di
 use native.Mathlib.Omega.{arith}
 use native.Mathlib.Decide.{ℕ-discrete, decLt}
 use lib.Dec.{eqb}
-use lib.ListN.{length, getD, set, List·getD-eq-default}
-use lib.Seq.{getD-set-same, getD-set-other}
+use lib.ListN.{length, getD, List·getD-eq-default}
 use lib.Pow.{pow-lt}
 use Rattle.foundation.specs.Words.{bit}
 use Rattle.foundation.specs.Tests.{choose, _and_, same, below, some-cong}
@@ -164,15 +163,6 @@ bound-all counts greatest h i = go (decLt i (length counts))
     go : Dec (i < length counts) → countOf counts i ≤ greatest
     go (yes l) = h i l
     go (no l) = let past : length counts ≤ i = omega arith in omega (arith, List·getD-eq-default counts 0 past)
-
--- one entry more of a table
-pub entries-more : (f : ℕ → ℕ) (table : List ℕ) (k v : ℕ) → k < length table → ((i : ℕ) → i < k → getD table i 0 ≡ f i) → v ≡ f k
-    → (i : ℕ) → i < k + 1 → getD (set table k v) i 0 ≡ f i
-entries-more f table k v h before e i l = go (ℕ-discrete i k)
-  where
-    go : Dec (i ≡ k) → getD (set table k v) i 0 ≡ f i
-    go (yes q) = rw q (getD-set-same table k v 0 h ∙ e)
-    go (no ne) = getD-set-other table k i v 0 ne ∙ before i (omega arith)
 
 pub weight-some : (o greatest : ℕ) → 0 < o → 0 < firstWeight o greatest
 weight-some o greatest h = go (eqb greatest 2)

@@ -13,7 +13,7 @@ use Rattle.model.specs.Tables.{Contract}
 use Rattle.model.specs.Answers.{Answer, tree, pass, refusal}
 use Rattle.model.specs.Kinds.{emptyKind, kindOf, breaks}
 use Rattle.model.specs.Rounds.{kindAutomaton, ListedKind, kindAt, rounds}
-use Rattle.model.specs.Checking.{Checked, standing, checking}
+use Rattle.model.specs.Checking.{greatestLimit, Checked, standing, checking}
 use Rattle.model.specs.Outputs.{Output}
 use Rattle.model.specs.Running.{mostCalls, running}
 use Rattle.model.specs.Claims.{Takes, Breaks}
@@ -96,16 +96,19 @@ pub record StopMeans (C : Contract) (L : ℕ) : Type 0 where
   pub moreKinds : MoreKinds C L
   pub firstKeep : FirstKeep C L
 
--- "each check with buffers of its limit's length, whatever they held", "No limit exceeds 512.": a limit and what is lent with
--- it
+-- "buffers of its limit's length", "No limit exceeds 512."
+pub record Fits (L : ℕ) (rowBuffer wordBuffer : List ℕ) : Type 0 where
+  pub atLeast : 1 ≤ L
+  pub atMost : L ≤ greatestLimit
+  pub rows : length rowBuffer ≡ 3 * L
+  pub words : length wordBuffer ≡ 5 * L
+
+-- "each check with buffers of its limit's length, whatever they held": a limit and what is lent with it
 pub record Lent : Type 0 where
   pub limit : ℕ
-  pub atLeast : 1 ≤ limit
-  pub atMost : limit ≤ 512
   pub rowBuffer : List ℕ
-  pub rowsFit : length rowBuffer ≡ 3 * limit
   pub wordBuffer : List ℕ
-  pub wordsFit : length wordBuffer ≡ 5 * limit
+  pub fits : Fits limit rowBuffer wordBuffer
 
 -- "its answer and closing buffers being those stated under Checking"
 abbrev pub checkOf : Contract → Lent → Checked

@@ -18,6 +18,19 @@ use tables::Symbol;
 use tables::node_at;
 use tables::rule_at;
 
+// The lists and lengths of no symbol yet: 256 places for each of 16 symbols.
+pub fn no_lists() -> [u16; 4096]
+    ensures { λ r. ⌜ r ≡ replicate 4096 0 ⌝ }
+{
+    [0u16; 4096]
+}
+
+pub fn no_lengths() -> [u16; 16]
+    ensures { λ r. ⌜ r ≡ replicate 16 0 ⌝ }
+{
+    [0u16; 16]
+}
+
 // No node is marked.
 fn no_marks() -> [u16; 256]
     ensures { λ r. ⌜ r ≡ replicate 256 0 ⌝ }

@@ -1,11 +1,10 @@
 -- The table of ends, filled from the last place to the first: a place's end comes from the entries of later places.
-use mathlib.Core.Path.{_≡_, ap, sym, subst, _∙_}
+use mathlib.Core.Path.{_≡_, ap, sym, _∙_}
 use mathlib.Core.List.{List}
 use Prim.Native.Nat.{ℕ, _+_, _<_}
 use native.Mathlib.Omega.{arith}
-use native.Mathlib.Decide.{ℕ-discrete}
 use lib.ListN.{length, getD, set}
-use lib.Seq.{getD-set-same, getD-set-other}
+use Rattle.foundation.specs.Lists.{set-holds}
 use Rattle.model.proofs.Laws.Documents.{Readable, endFrom, inner-place}
 use Rattle.reading.specs.Ends.{EndsFrom}
 
@@ -30,8 +29,4 @@ known xs table i readable here later other =
 
 -- one more entry
 pub ends-more : (xs table : List ℕ) (i v : ℕ) → i < length table → v ≡ endFrom xs i → EndsFrom (i + 1) xs table → EndsFrom i xs (set table i v)
-ends-more xs table i v h e later j from within = go (ℕ-discrete j i)
-  where
-    go : Dec (j ≡ i) → getD (set table i v) j 0 ≡ endFrom xs j
-    go (yes q) = subst (λ (k : ℕ). getD (set table i v) k 0 ≡ endFrom xs k) (sym q) (getD-set-same table i v 0 h ∙ e)
-    go (no q) = getD-set-other table i j v 0 q ∙ later j (omega arith) within
+ends-more xs table i v h e later j from within = set-holds (endFrom xs) 0 table i v h e j (λ ne. later j (omega arith) within)

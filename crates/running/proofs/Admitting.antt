@@ -1,5 +1,5 @@
 -- Admission, the tests of the buffer and of the document, and what is known of a contract and a document that pass.
-use mathlib.Core.Path.{_≡_, refl, ap, sym, _∙_}
+use mathlib.Core.Path.{_≡_, refl, ap, sym}
 use mathlib.Core.Bool.{Bool, true, false, not, _||_, true≢false}
 use mathlib.Core.List.{List, [], _∷_, _++_}
 use Prim.Native.Nat.{ℕ, zero, suc, _%_, _<_, _≤_}
@@ -10,19 +10,19 @@ use lib.ListN.{length, getD}
 use borrow.Author.Tests.{ltb-false}
 use Rattle.model.specs.Trees.{Tree, empty, node, Over, preorder}
 use Rattle.model.specs.Tables.{Transformation, Contract}
-use Rattle.model.specs.Answers as model
-use Rattle.model.specs.Answers.{Verdict, fine, Answer, admitted, refusal, refuseIf, _then_, given}
+use Rattle.model.specs.Answers.{fine, Answer, admitted, refusal, refuseIf, _then_, given}
 use Rattle.model.specs.Documents.{document, documentTree}
 use Rattle.model.specs.Rows.{rowCount}
 use Rattle.model.specs.Running.{Ran, rowsWrong, run, closing, runningVerdict, running}
 use Rattle.model.specs.Admission.{admission, admit}
 use Rattle.answers.specs.declared.DocumentFault.{DocumentFault}
 use Rattle.answers.specs.declared.ContractFault.{ContractFault}
-use Rattle.answers.specs.declared.ContractFault.the-variants as contract
 use Rattle.answers.specs.Numbers.{contractRefusal, documentRefusal}
 use Rattle.model.proofs.Laws.Documents.{Document, some-number}
 use Rattle.model.proofs.Laws.Established.{Between, Established}
+use Rattle.model.proofs.Laws.Answers.{given-stopped}
 use Rattle.model.proofs.Laws.Admitted.{established, admit-fine}
+use Rattle.admission.proofs.Answered.{refused-as}
 use Rattle.reading.specs.Answers.{faultVerdict, fault-given}
 use Rattle.reading.specs.Ends.{EndsFrom}
 use Rattle.running.specs.Places.{Children}
@@ -95,30 +95,14 @@ module _ (T : Transformation) (numbers buffer : List ℕ) where
 
 -- The whole operation
 
--- every fault of a contract is a refusal
-refusal-of : (fault : ContractFault) → (number : ℕ) × (place : ℕ) × (contractRefusal fault ≡ refusal number place)
-refusal-of (contract.Size place) = (1, place, refl)
-refusal-of (contract.Length place) = (2, place, refl)
-refusal-of (contract.InputRow row) = (3, row, refl)
-refusal-of (contract.Entry index) = (4, index, refl)
-refusal-of (contract.Count procedure) = (5, procedure, refl)
-refusal-of (contract.Node k) = (6, k, refl)
-refusal-of (contract.Rule rule) = (7, rule, refl)
-refusal-of (contract.Facts total) = (8, total, refl)
-
 module _ (C : Contract) (numbers buffer : List ℕ) where
   pub contract-refused : (fault : ContractFault) → contractRefusal fault ≡ admit C → EndsWith (running C numbers buffer) (contractRefusal fault) buffer
-  unfolding admit running runningVerdict _then_ given
-  contract-refused fault e = go (admission C) refl
-    where
-      go : (v : Verdict) → admission C ≡ v → EndsWith (running C numbers buffer) (contractRefusal fault) buffer
-      go fine a =
-          let (number, place, said) = refusal-of fault in
-          let e′ : contractRefusal fault ≡ admitted = e ∙ rw a in
-          absurd (let z : _≡_ {A = ℕ} 0 1 = cc in omega arith)
-      go (model.refused number place) a =
-          let e′ : contractRefusal fault ≡ refusal number place = e ∙ rw a in
-          rw (running, a) (record { answered = e′; left = refl })
+  unfolding admit running runningVerdict
+  contract-refused fault e =
+      let r = refused-as fault (admission C) e in
+      let q : running C numbers buffer ≡ record { answer = refusal (r .number) (r .place); rows = buffer } =
+      given-stopped _ _ (admission C) _ (r .number) (r .place) (r .verdict) in
+      rw q (record { answered = r .says; left = refl })
 
   -- where a contract is admitted, what is established of it is what running asks for
   module _ (passed : admitted ≡ admit C) where

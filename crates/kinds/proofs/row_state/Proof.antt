@@ -1,6 +1,6 @@
 -- A row's states are below 32, so that its bits fit; a row of another symbol gives nothing.
 use mathlib.Core.Path.{ap, sym, _∙_}
-use Prim.Native.Nat.{_-_, _/_, _^_, _<_}
+use Prim.Native.Nat.{ℕ, _-_, _*_, _/_, _^_, _<_}
 use native.Mathlib.Omega.{arith}
 use borrow.Author.Needs.{needs}
 use lib.Bits.{bitAnd}
@@ -43,7 +43,8 @@ up-requires c κs =
     let e = ap (λ (x : Tables.InputRow). x .state) (c .before .before .before .before .before .before .input-row-at .ensures) in
     let h : c .wide3 .result < 32 = rw (c .wide3 .ensures, e) (pre .0 .state (args .r) (pre .1)) in
     let l : c .wide3 .result < 64 = omega arith in
-    (l, one-at (bitAnd (args .left / 2 ^ c .before .before .wide .result) (args .right / 2 ^ c .before .wide2 .result)) (c .wide3 .result) 64 l .0)
+    let small : (x : ℕ) → bitAnd x 1 * 2 ^ c .wide3 .result < 2 ^ 64 = λ x. one-at x (c .wide3 .result) 64 l .0 in
+    (l, search small)
 
 returns : tie.Need-returns
 returns c =

@@ -4,7 +4,7 @@ use Prim.Native.Nat.{ℕ, _-_, _≤_, _<_}
 use native.Mathlib.Omega.{arith}
 use lib.ListN.{length, getD, length-set}
 use Rattle.model.specs.Facts.{offset}
-use Rattle.layouts.specs.LaneWords.{entries-more}
+use Rattle.foundation.specs.Lists.{filled-more}
 use Rattle.layouts.proofs.offsets_of.Statement.{statement}
 use Rattle.layouts.proofs.offsets_of.Tie as tie
 
@@ -39,7 +39,7 @@ loop-again c =
     let args = c .before .before .before .before .args in
     let loop = c .before .before .loop in
     let h : loop .p < length (loop .offsets) = omega (arith, c .before .before .before .before .pre .0 .procedures≤, loop .inv .1) in
-    (omega arith, simp length-set (loop .inv .1), entries-more (λ (i : ℕ). offset (args .states) (args .counts .now) i) (loop .offsets) (loop .p) _ h (loop .inv .2) (c .offset-entry .ensures))
+    (omega arith, simp length-set (loop .inv .1), filled-more (λ (i : ℕ). offset (args .states) (args .counts .now) i) 0 (loop .offsets) (loop .p) _ h (loop .inv .2) (c .offset-entry .ensures))
 
 returns : tie.Need-returns Inv-loop μ-loop
 returns c =

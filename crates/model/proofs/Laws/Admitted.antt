@@ -14,7 +14,7 @@ use Rattle.model.specs.Expressions.{expression, greatestParameter, holds
 use Rattle.model.specs.Facts.{factTotal}
 use Rattle.model.specs.Answers.{fine, refuseFirst, admitted}
 use Rattle.model.specs.Admission.{outside, sizeWrong, tuplesWrong, tableLength, lengthWrong, inputRowWrong, entryWrong, countWrong, references, tagWrong, nameWrong, childWrong, referenceWrong, unusedFilled, nodeWrong, ruleWrong, mostFacts, sizes, lengths, inputRows, entries, counts, nodes, rules, facts, admission, admit}
-use Rattle.model.proofs.Laws.Answers.{then-fine-left, then-fine-right, refuse-if-fine, refuse-first-fine, given-admitted}
+use Rattle.model.proofs.Laws.Answers.{then-fine-left, then-fine-right, refuse-if-fine, refuse-first-fine, given-admitted, NumbersTo, then-numbers, refuse-if-numbers, refuse-first-numbers}
 use Rattle.model.proofs.Laws.Established.{Between, WholeTuples, GoodInputRow, GoodNode, good-parameter, good-nothing, good-symbol, good-call, GoodRule, Established}
 
 -- a disjunction that fails, part by part
@@ -341,3 +341,15 @@ established C e =
 pub admit-fine : (C : Contract) → admit C ≡ admitted → admission C ≡ fine
 unfolding admit
 admit-fine C e = given-admitted (admission C) e
+
+-- admission refuses by the numbers 1 to 8
+pub admission-numbers : (C : Contract) → NumbersTo 8 (admission C)
+unfolding admission sizes lengths inputRows entries counts nodes rules facts
+admission-numbers C =
+    then-numbers 8 _ _ (refuse-first-numbers 8 1 _ _ (omega arith))
+    (then-numbers 8 _ _ (refuse-first-numbers 8 2 _ _ (omega arith))
+    (then-numbers 8 _ _ (refuse-first-numbers 8 3 _ _ (omega arith))
+    (then-numbers 8 _ _ (refuse-first-numbers 8 4 _ _ (omega arith))
+    (then-numbers 8 _ _ (refuse-first-numbers 8 5 _ _ (omega arith))
+    (then-numbers 8 _ _ (refuse-first-numbers 8 6 _ _ (omega arith))
+    (then-numbers 8 _ _ (refuse-first-numbers 8 7 _ _ (omega arith)) (refuse-if-numbers 8 _ 8 _ (omega arith))))))))

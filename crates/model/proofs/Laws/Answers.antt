@@ -1,14 +1,12 @@
--- Refusals: a sequence gives none exactly where no part does, and a table where no entry is bad; and which one is given.
-use mathlib.Core.Path.{_≡_, refl, _∙_}
+-- Refusals: a sequence gives none exactly where no part does, and a table where no entry is bad; which one is given; and how
+-- far their numbers go.
+use mathlib.Core.Path.{_≡_, refl, sym, _∙_}
 use mathlib.Core.Bool.{Bool, true, false}
 use Prim.Native.Nat.{ℕ, _<_, _≤_}
 use native.Mathlib.Omega.{arith}
 use borrow.Author.Tests.{ltb-false, lt-ltb, le-ltb}
 use Rattle.foundation.specs.Search.{first, first-clear}
 use Rattle.model.specs.Answers.{Verdict, fine, refused, _then_, refuseIf, refuseFirst, admitted, refusal, given}
-
-fine-refuses-nothing : (number place : ℕ) → refused number place ≡ fine → ⊥
-fine-refuses-nothing number place e = let z : _≡_ {A = ℕ} 0 1 = cc in omega arith
 
 pub refused-not-fine : (number place : ℕ) → refused number place ≡ fine → ⊥
 refused-not-fine number place e = let z : _≡_ {A = ℕ} 0 1 = cc in omega arith
@@ -21,7 +19,7 @@ then-fine-left (refused number place) w e = e
 pub then-fine-right : (v w : Verdict) → (v then w) ≡ fine → w ≡ fine
 unfolding _then_
 then-fine-right fine w e = e
-then-fine-right (refused number place) w e = absurd (fine-refuses-nothing number place e)
+then-fine-right (refused number place) w e = absurd (refused-not-fine number place e)
 
 pub then-fine : (v w : Verdict) → (v then w) ≡ fine → (v ≡ fine) × (w ≡ fine)
 then-fine v w e = (then-fine-left v w e, then-fine-right v w e)
@@ -43,7 +41,7 @@ then-assoc (refused number place) v w = refl
 
 pub refuse-if-fine : (test : Bool) (number place : ℕ) → refuseIf test number place ≡ fine → test ≡ false
 unfolding refuseIf
-refuse-if-fine true number place e = absurd (fine-refuses-nothing number place e)
+refuse-if-fine true number place e = absurd (refused-not-fine number place e)
 refuse-if-fine false number place e = refl
 
 pub refuse-if-passed : (test : Bool) (number place : ℕ) → test ≡ false → refuseIf test number place ≡ fine
@@ -94,3 +92,22 @@ pub given-admitted : (v : Verdict) → given v refusal admitted ≡ admitted →
 unfolding given
 given-admitted fine e = refl
 given-admitted (refused number place) e = absurd (refusal-admits-nothing number place e)
+
+-- every refusal has a number of at most k
+abbrev pub NumbersTo : ℕ → Verdict → Type 0
+NumbersTo k v = (number place : ℕ) → v ≡ refused number place → number ≤ k
+
+module _ (k : ℕ) where
+  pub then-numbers : (v w : Verdict) → NumbersTo k v → NumbersTo k w → NumbersTo k (v then w)
+  unfolding _then_
+  then-numbers fine w of-v of-w = of-w
+  then-numbers (refused n p) w of-v of-w = of-v
+
+  pub refuse-if-numbers : (test : Bool) (n p : ℕ) → n ≤ k → NumbersTo k (refuseIf test n p)
+  unfolding refuseIf
+  refuse-if-numbers true n p h number place e = let same : n ≡ number = cc in omega arith
+  refuse-if-numbers false n p h number place e = absurd (refused-not-fine number place (sym e))
+
+  pub refuse-first-numbers : (n : ℕ) (bad : ℕ → Bool) (count : ℕ) → n ≤ k → NumbersTo k (refuseFirst n bad count)
+  unfolding refuseFirst
+  refuse-first-numbers n bad count h = refuse-if-numbers _ n _ h

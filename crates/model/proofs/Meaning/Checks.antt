@@ -17,8 +17,7 @@ use Rattle.model.proofs.Meaning.Answers.{Meaning, a-pass, a-tree, a-sto
 -- a check of an admitted contract
 pub check-of : (C : Contract) → Admitted C → (lent : Lent) → checkOf C lent ≡ check C (lent .limit)
 check-of C good lent =
-    checking-check C (lent .limit) (lent .rowBuffer) (lent .wordBuffer) good
-    (record { atLeast = lent .atLeast; atMost = lent .atMost; rows = lent .rowsFit; words = lent .wordsFit })
+    checking-check C (lent .limit) (lent .rowBuffer) (lent .wordBuffer) good (lent .fits)
 
 -- a kind breaks an admitted contract exactly if each tree of that kind does
 pub breaks-admitted : (C : Contract) → Admitted C → (t : Tree) → TreeOf C t → T (breaks C (kindOf C t)) ↔ Breaks C t

@@ -27,10 +27,10 @@ use Rattle.model.proofs.Meaning.Answers.{standing-answer, pass-not-tree
 use Rattle.model.proofs.Meaning.AcceptMarks.{SameLists, same-lists}
 
 -- a tree that breaks the second contract breaks the first
-over-first : (C D : Contract) → OneTransformation C D → (t : Tree) → TreeOf D t → TreeOf C t
+pub over-first : (C D : Contract) → OneTransformation C D → (t : Tree) → TreeOf D t → TreeOf C t
 over-first C D one t over = subst (λ (T : Transformation). Over (T .symbols) t) (sym one) over
 
-breaks-first : (C D : Contract) → OneTransformation C D → Within C D → (t : Tree) → TreeOf D t → Breaks D t → Breaks C t
+pub breaks-first : (C D : Contract) → OneTransformation C D → Within C D → (t : Tree) → TreeOf D t → Breaks D t → Breaks C t
 breaks-first C D one within t over b =
     record {
       taken = within .takesNoMore t over (b .taken);

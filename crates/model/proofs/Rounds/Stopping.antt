@@ -16,16 +16,9 @@ use Rattle.model.specs.Admission.{admission}
 use Rattle.model.specs.Kinds.{breaks}
 use Rattle.model.specs.Rounds.{kindAutomaton, emptyRow, ListedKind, kindAt, rounds}
 use Rattle.model.specs.Checking.{greatestLimit, Checked, standing, firstBreaking, answered, check, limitWrong, checkingVerdict, checking}
-use Rattle.model.specs.Meaning.{kindRounds, NoneBreaks}
+use Rattle.model.specs.Meaning.{kindRounds, NoneBreaks, Fits}
 use Rattle.model.proofs.Rounds.Growth.{Begins, begins-state, Beginning, agree-state, agree-take, rounds-beginning}
 use Rattle.model.proofs.Rounds.Listing.{Ended, ended-or-longer, ended-longest, ended-same, listing-rounds}
-
--- a limit of 1 to 512, and buffers of its length
-pub record Fits (L : ℕ) (rowBuffer wordBuffer : List ℕ) : Type 0 where
-  pub atLeast : 1 ≤ L
-  pub atMost : L ≤ greatestLimit
-  pub rows : length rowBuffer ≡ 3 * L
-  pub words : length wordBuffer ≡ 5 * L
 
 module _ (C : Contract) where
   -- in a longer list, and after a row that does not break was added

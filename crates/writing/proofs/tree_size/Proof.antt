@@ -6,7 +6,7 @@ use native.Mathlib.Omega.{arith}
 use borrow.Author.Count.{below-none}
 use lib.ListN.{length, getD, length-set}
 use Rattle.writing.specs.Rows.{sizeWithin}
-use Rattle.writing.proofs.Buffers.{filled-more}
+use Rattle.foundation.specs.Lists.{filled-more}
 use Rattle.writing.proofs.tree_size.Statement.{statement}
 use Rattle.writing.proofs.tree_size.Tie as tie
 
@@ -39,7 +39,7 @@ loop-again : tie.Need-loop-again Inv-loop μ-loop
 loop-again c = (
   omega arith,
   simp length-set (c .before .before .before .loop .inv .1),
-  filled-more (sizeWithin (c .before .before .before .before .before .args .most) (c .before .before .before .before .before .args .rows .now)) (c .before .before .before .loop .sizes) (c .before .before .before .loop .k) (c .row-size .result) (omega arith)
+  filled-more (sizeWithin (c .before .before .before .before .before .args .most) (c .before .before .before .before .before .args .rows .now)) 0 (c .before .before .before .loop .sizes) (c .before .before .before .loop .k) (c .row-size .result) (omega arith)
       (c .before .before .before .loop .inv .2) (c .row-size .ensures),
 )
 

@@ -15,25 +15,27 @@ same-length c = search needs
 
 returns : tie.Need-returns
 returns c =
-    offer-old (c .before .before .before .before .before .before .args .verdicts .accepted) (c .before .before .before .before .before .before .args .verdicts .refused) (c .before .before .before .before .before .before .args .limit) (c .before .before .before .before .before .before .args .count) (c .before .before .before .before .before .before .args .symbol .0) (c .before .before .before .before .before .before .args .left) (c .before .before .before .before .before .before .args .right) (c .before .before .before .before .before .before .args .kind .now) (c .before .before .before .before .before .before .args .rows .now) (c .before .before .before .before .before .before .args .words .now)
+    let a = c .before .before .before .before .before .before .args in
+    offer-old (a .verdicts .accepted) (a .verdicts .refused) (a .limit) (a .count) (a .symbol .0) (a .left) (a .right) (a .kind .now) (a .rows .now) (a .words .now)
     (sym (c .before .listed .ensures) ∙ c .if1 .taken)
+
+breaks-requires : tie.Need-breaks-requires
+breaks-requires c κs = search needs
 
 same-length-2 : tie.Need-same-length-2
 same-length-2 c = search needs
 
 returns-2 : tie.Need-returns-2
 returns-2 c =
-    offer-full (c .before .before .before .before .before .before .before .args .verdicts .accepted) (c .before .before .before .before .before .before .before .args .verdicts .refused) (c .before .before .before .before .before .before .before .args .limit) (c .before .before .before .before .before .before .before .args .count) (c .before .before .before .before .before .before .before .args .symbol .0) (c .before .before .before .before .before .before .before .args .left) (c .before .before .before .before .before .before .before .args .right) (c .before .before .before .before .before .before .before .args .kind .now) (c .before .before .before .before .before .before .before .args .rows .now) (c .before .before .before .before .before .before .before .args .words .now)
-    (sym (c .before .before .listed .ensures) ∙ c .before .if1 .left) (c .if2 .taken)
+    let a = c .before .before .before .before .before .before .before .before .args in
+    offer-full (a .verdicts .accepted) (a .verdicts .refused) (a .limit) (a .count) (a .symbol .0) (a .left) (a .right) (a .kind .now) (a .rows .now) (a .words .now)
+    (sym (c .before .before .before .listed .ensures) ∙ c .before .before .if1 .left) (c .if2 .taken)
 
 store-row-requires : tie.Need-store-row-requires
 store-row-requires c κs = search needs
 
 store-kind-requires : tie.Need-store-kind-requires
 store-kind-requires c κs = search needs
-
-breaks-requires : tie.Need-breaks-requires
-breaks-requires c κs = search needs
 
 same-length-3 : tie.Need-same-length-3
 same-length-3 c = search needs
@@ -43,9 +45,10 @@ same-length-4 c = search needs
 
 returns-3 : tie.Need-returns-3
 returns-3 c =
-    let stored = offer-stored (c .before .before .before .before .before .before .before .before .before .before .before .before .before .before .before .before .before .args .verdicts .accepted) (c .before .before .before .before .before .before .before .before .before .before .before .before .before .before .before .before .before .args .verdicts .refused) (c .before .before .before .before .before .before .before .before .before .before .before .before .before .before .before .before .before .args .limit) (c .before .before .before .before .before .before .before .before .before .before .before .before .before .before .before .before .before .args .count) (c .before .before .before .before .before .before .before .before .before .before .before .before .before .before .before .before .before .args .symbol .0) (c .before .before .before .before .before .before .before .before .before .before .before .before .before .before .before .before .before .args .left) (c .before .before .before .before .before .before .before .before .before .before .before .before .before .before .before .before .before .args .right) (c .before .before .before .before .before .before .before .before .before .before .before .before .before .before .before .before .before .args .kind .now) (c .before .before .before .before .before .before .before .before .before .before .before .before .before .before .before .before .before .args .rows .now) (c .before .before .before .before .before .before .before .before .before .before .before .before .before .before .before .before .before .args .words .now)
-    (sym (c .before .before .before .before .before .before .before .before .before .before .before .before .listed .ensures) ∙ c .before .before .before .before .before .before .before .before .before .before .before .if1 .left) (c .before .before .before .before .before .before .before .before .before .before .if2 .left) true (sym (c .before .breaks .ensures) ∙ c .if3 .taken) offered.Breaks refl in
-    record { answer = stored .answer; rows = c .before .before .before .before .before .before .before .before .store-row .ensures ∙ stored .rows; words = c .before .before .before .before .store-kind .ensures ∙ stored .words }
+    let a = c .before .before .before .before .before .before .before .before .before .before .before .before .before .before .before .before .before .args in
+    let stored = offer-stored (a .verdicts .accepted) (a .verdicts .refused) (a .limit) (a .count) (a .symbol .0) (a .left) (a .right) (a .kind .now) (a .rows .now) (a .words .now)
+    (sym (c .before .before .before .before .before .before .before .before .before .before .before .before .listed .ensures) ∙ c .before .before .before .before .before .before .before .before .before .before .before .if1 .left) (c .before .before .before .before .before .before .before .before .before .if2 .left) true (sym (c .before .before .before .before .before .before .before .before .before .before .breaks .ensures) ∙ c .if3 .taken) offered.Breaks refl in
+    record { answer = stored .answer; rows = c .before .before .before .before .before .before .before .store-row .ensures ∙ stored .rows; words = c .before .before .before .store-kind .ensures ∙ stored .words }
 
 same-length-5 : tie.Need-same-length-5
 same-length-5 c = search needs
@@ -55,9 +58,10 @@ same-length-6 c = search needs
 
 returns-4 : tie.Need-returns-4
 returns-4 c =
-    let stored = offer-stored (c .before .before .before .before .before .before .before .before .before .before .before .before .before .before .before .before .before .args .verdicts .accepted) (c .before .before .before .before .before .before .before .before .before .before .before .before .before .before .before .before .before .args .verdicts .refused) (c .before .before .before .before .before .before .before .before .before .before .before .before .before .before .before .before .before .args .limit) (c .before .before .before .before .before .before .before .before .before .before .before .before .before .before .before .before .before .args .count) (c .before .before .before .before .before .before .before .before .before .before .before .before .before .before .before .before .before .args .symbol .0) (c .before .before .before .before .before .before .before .before .before .before .before .before .before .before .before .before .before .args .left) (c .before .before .before .before .before .before .before .before .before .before .before .before .before .before .before .before .before .args .right) (c .before .before .before .before .before .before .before .before .before .before .before .before .before .before .before .before .before .args .kind .now) (c .before .before .before .before .before .before .before .before .before .before .before .before .before .before .before .before .before .args .rows .now) (c .before .before .before .before .before .before .before .before .before .before .before .before .before .before .before .before .before .args .words .now)
-    (sym (c .before .before .before .before .before .before .before .before .before .before .before .before .listed .ensures) ∙ c .before .before .before .before .before .before .before .before .before .before .before .if1 .left) (c .before .before .before .before .before .before .before .before .before .before .if2 .left) false (sym (c .before .breaks .ensures) ∙ c .if3 .left) offered.New refl in
-    record { answer = stored .answer; rows = c .before .before .before .before .before .before .before .before .store-row .ensures ∙ stored .rows; words = c .before .before .before .before .store-kind .ensures ∙ stored .words }
+    let a = c .before .before .before .before .before .before .before .before .before .before .before .before .before .before .before .before .before .args in
+    let stored = offer-stored (a .verdicts .accepted) (a .verdicts .refused) (a .limit) (a .count) (a .symbol .0) (a .left) (a .right) (a .kind .now) (a .rows .now) (a .words .now)
+    (sym (c .before .before .before .before .before .before .before .before .before .before .before .before .listed .ensures) ∙ c .before .before .before .before .before .before .before .before .before .before .before .if1 .left) (c .before .before .before .before .before .before .before .before .before .if2 .left) false (sym (c .before .before .before .before .before .before .before .before .before .before .breaks .ensures) ∙ c .if3 .left) offered.New refl in
+    record { answer = stored .answer; rows = c .before .before .before .before .before .before .before .store-row .ensures ∙ stored .rows; words = c .before .before .before .store-kind .ensures ∙ stored .words }
 
 pub offer-spec : {M : Type 1} → statement M
 offer-spec =
@@ -66,11 +70,11 @@ offer-spec =
     listed-requires
     same-length
     returns
+    breaks-requires
     same-length-2
     returns-2
     store-row-requires
     store-kind-requires
-    breaks-requires
     same-length-3
     same-length-4
     returns-3

@@ -7,7 +7,7 @@ use lib.ListN.{length}
 use Rattle.model.specs.Tables.{contract}
 use Rattle.kind_lists.specs.Between.{Between, round-starts, round-ends, passed}
 use Rattle.kind_lists.proofs.Stops.{ends, goes, kept-lengths}
-use Rattle.kind_lists.proofs.Laps.{between-room}
+use Rattle.kind_lists.proofs.Laps.{between-room, between-some}
 use Rattle.kind_lists.proofs.loops.all_rounds.Statement.{statement}
 use Rattle.kind_lists.proofs.loops.all_rounds.Tie as tie
 
@@ -46,7 +46,7 @@ returns : tie.Need-returns Inv-loop μ-loop
 returns c = ends _ _ _ _ _ _ (c .before .before .before .before .before .one-round .result) (c .match .keys2) (c .before .before .before .before .before .one-round .ensures)
 
 loop-less : tie.Need-loop-less Inv-loop μ-loop
-loop-less c = let room = between-room (c .before .before .before .before .before .before .before .before .before .before .before .before .before .before .before .before .before .before .before .before .loop .inv .0) in omega (arith, room .used, c .before .before .before .before .before .before .before .before .before .before .before .before .before .before .before .before .before .before .before .loop-test .taken)
+loop-less c = let b = c .before .before .before .before .before .before .before .before .before .before .before .before .before .before .before .before .before .before .before .before .loop .inv .0 in omega (arith, between-room b .used, between-some b, c .before .before .before .before .before .before .before .before .before .before .before .before .before .before .before .before .before .before .before .loop-test .taken)
 
 loop-again : tie.Need-loop-again Inv-loop μ-loop
 loop-again c = (round-ends _ (goes _ _ _ _ _ (c .before .before .before .before .before .before .before .one-round .result) _ (c .before .step .given .1) (c .before .before .before .before .before .before .before .one-round .ensures)), c .before .before .before .before .before .before .before .before .before .before .before .before .before .before .before .before .mark-rows .ensures .long ∙ c .before .before .before .before .before .before .before .before .before .before .before .before .before .before .before .before .before .before .before .before .loop .inv .1, c .before .before .before .before .before .before .before .before .before .before .before .before .before .mark-rows2 .ensures .long ∙ c .before .before .before .before .before .before .before .before .before .before .before .before .before .before .before .before .before .before .before .before .loop .inv .2)

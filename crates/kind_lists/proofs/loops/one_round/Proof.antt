@@ -1,11 +1,12 @@
--- The loop's invariant: the loops stand before the symbol and all its pairs. The measure is the number of symbols left.
+-- The loop's invariant: the loops stand before the symbol and all its pairs. The measure is the number of symbols left. The
+-- loop's test is read as arithmetic finds it, alone or as the first of two.
 use mathlib.Core.Path.{_≡_, refl, sym, _∙_}
 use Prim.Native.Nat.{ℕ, _+_, _-_, _≤_, _<_}
 use native.Mathlib.Omega.{arith}
 use Rattle.model.specs.Tables.{contract}
 use Rattle.kind_lists.specs.Steps.{At, Outcome}
 use Rattle.kind_lists.proofs.Visits.{at-room}
-use Rattle.kind_lists.proofs.Stops.{ends, goes, kept-lengths, at-symbol}
+use Rattle.kind_lists.proofs.Stops.{ends, goes, kept-lengths, at-symbol, first-below}
 use Rattle.kind_lists.proofs.loops.one_round.Statement.{statement}
 use Rattle.kind_lists.proofs.loops.one_round.Tie as tie
 
@@ -22,10 +23,10 @@ loop-holds : tie.Need-loop-holds Inv-loop μ-loop
 loop-holds c = (c .before .before .before .before .before .before .before .before .before .pre .1, c .before .before .before .before .before .before .before .before .before .pre .0 .prepared .established .symbols .least≤)
 
 symbol-of-requires : tie.Need-symbol-of-requires Inv-loop μ-loop
-symbol-of-requires c κs = omega (arith, c .loop-test .taken, c .before .before .before .before .before .before .before .before .before .before .before .pre .0 .prepared .established .symbols .≤most)
+symbol-of-requires c κs = let test = c .loop-test .taken in omega (arith, c .before .before .before .before .before .before .before .before .before .before .before .pre .0 .prepared .established .symbols .≤most, first-below)
 
 left-rows-requires : tie.Need-left-rows-requires Inv-loop μ-loop
-left-rows-requires c κs = (c .before .before .before .before .before .before .before .before .before .before .before .before .before .before .before .pre .0, at-symbol _ (sym (c .before .before .before .symbol-of .ensures)) (c .before .before .before .before .before .loop .inv .0), omega (arith, c .before .before .before .symbol-of .ensures, c .before .before .before .before .loop-test .taken))
+left-rows-requires c κs = (c .before .before .before .before .before .before .before .before .before .before .before .before .before .before .before .pre .0, at-symbol _ (sym (c .before .before .before .symbol-of .ensures)) (c .before .before .before .before .before .loop .inv .0), let test = c .before .before .before .before .loop-test .taken in omega (arith, c .before .before .before .symbol-of .ensures, first-below))
 
 enum-known-step : tie.Need-enum-known-step Inv-loop μ-loop
 enum-known-step c = c .match .keys1
@@ -40,13 +41,13 @@ returns : tie.Need-returns Inv-loop μ-loop
 returns c = ends _ _ _ _ _ _ (c .before .before .before .before .before .left-rows .result) (c .match .keys2) (c .before .before .before .before .before .left-rows .ensures)
 
 add-symbol : tie.Need-add-symbol Inv-loop μ-loop
-add-symbol c = omega (arith, c .before .before .before .before .before .before .before .before .before .before .before .before .loop-test .taken, c .before .before .before .before .before .before .before .before .before .before .before .before .before .before .before .before .before .before .before .before .before .before .before .pre .0 .prepared .established .symbols .≤most)
+add-symbol c = let test = c .before .before .before .before .before .before .before .before .before .before .before .before .loop-test .taken in omega (arith, c .before .before .before .before .before .before .before .before .before .before .before .before .before .before .before .before .before .before .before .before .before .before .before .pre .0 .prepared .established .symbols .≤most, first-below)
 
 loop-less : tie.Need-loop-less Inv-loop μ-loop
-loop-less c = omega (arith, c .before .before .before .before .before .before .before .before .before .before .before .before .loop-test .taken)
+loop-less c = let test = c .before .before .before .before .before .before .before .before .before .before .before .before .loop-test .taken in omega (arith, first-below)
 
 loop-again : tie.Need-loop-again Inv-loop μ-loop
-loop-again c = (at-symbol _ (omega (arith, c .before .before .before .before .before .before .before .before .before .before .before .symbol-of .ensures)) (goes _ _ _ _ _ (c .before .before .before .before .before .before .before .left-rows .result) _ (c .before .step .given .1) (c .before .before .before .before .before .before .before .left-rows .ensures)), omega (arith, c .before .before .before .before .before .before .before .before .before .before .before .before .loop-test .taken))
+loop-again c = (at-symbol _ (omega (arith, c .before .before .before .before .before .before .before .before .before .before .before .symbol-of .ensures)) (goes _ _ _ _ _ (c .before .before .before .before .before .before .before .left-rows .result) _ (c .before .step .given .1) (c .before .before .before .before .before .before .before .left-rows .ensures)), let test = c .before .before .before .before .before .before .before .before .before .before .before .before .loop-test .taken in omega (arith, first-below))
 
 same-length-3 : tie.Need-same-length-3 Inv-loop μ-loop
 same-length-3 c = at-room (c .before .loop .inv .0) .rowRoom ∙ sym (at-room (c .before .before .before .before .before .before .before .before .before .before .before .pre .1) .rowRoom)
@@ -55,7 +56,7 @@ same-length-4 : tie.Need-same-length-4 Inv-loop μ-loop
 same-length-4 c = at-room (c .before .loop .inv .0) .wordRoom ∙ sym (at-room (c .before .before .before .before .before .before .before .before .before .before .before .pre .1) .wordRoom)
 
 returns-2 : tie.Need-returns-2 Inv-loop μ-loop
-returns-2 c = at-symbol _ (omega (arith, c .before .loop .inv .1, c .loop-test .left)) (c .before .loop .inv .0)
+returns-2 c = at-symbol _ (let test = c .loop-test .left in omega (arith, c .before .loop .inv .1)) (c .before .loop .inv .0)
 
 pub one-round-spec : {M : Type 1} → statement M
 one-round-spec =

@@ -1,0 +1,46 @@
+-- What a caller in C or Rust may conclude from a check: the reply and the closing buffers are those of a call, of which
+-- `checking` says what they mean (`call-meaning`, `demand-3-of-calls`).
+use mathlib.Core.Path.{_≡_, refl, ap, _∙_}
+use mathlib.Core.List.{List}
+use Prim.Native.Nat.{ℕ}
+use lib.Dec.{eqb}
+use Rattle.foundation.specs.Tests.{choose}
+use Rattle.model.specs.Tables.{Contract}
+use Rattle.model.specs.Answers.{Answer, refusal, admitted, judged, pass, tree, ran, written}
+use Rattle.model.specs.Checking.{checking}
+use Rattle.checking.specs.Calls.{Call}
+use Rattle.goosedawn_c.specs.declared.Reply.{Reply}
+use Rattle.goosedawn_c.specs.Replies.{replyOf, Checks}
+
+-- the answer of a reply
+abbrev pub answerOf : Reply → Answer
+answerOf r =
+    choose (eqb (r .answer) 0) (refusal (r .first) (r .second))
+    (choose (eqb (r .answer) 1) admitted
+    (choose (eqb (r .answer) 2) (judged (r .first))
+    (choose (eqb (r .answer) 3) (pass (r .first))
+    (choose (eqb (r .answer) 4) (tree (r .first))
+    (choose (eqb (r .answer) 5) (ran (r .first) (r .second)) (written (r .first)))))))
+
+-- no two answers have one reply
+pub answer-of-reply : (answer : Answer) → answerOf (replyOf answer) ≡ answer
+answer-of-reply admitted = refl
+answer-of-reply (judged result) = refl
+answer-of-reply (tree row) = refl
+answer-of-reply (pass count) = refl
+answer-of-reply (ran root used) = refl
+answer-of-reply (written count) = refl
+answer-of-reply (refusal number place) = refl
+
+module _ (C : Contract) (L : ℕ) (rows words : List ℕ) (r : Reply) (closingRows closingWords : List ℕ) where
+  -- the call that the promise of `goosedawn_check` speaks of
+  abbrev pub callOf : Checks r closingRows closingWords (checking C L rows words) → Call C L
+  callOf promise =
+      record {
+        rows = rows;
+        words = words;
+        answer = answerOf r;
+        closingRows = closingRows;
+        closingWords = closingWords;
+        gives = record { answered = ap answerOf (promise .0) ∙ answer-of-reply _; rowsClosed = promise .1; wordsClosed = promise .2 };
+      }
