@@ -1,11 +1,7 @@
 -- `run_c2` meets its contract: the line of the answer that the definitions give.
-use mathlib.Core.Path.{sym, ap, _∙_}
-use mathlib.Core.List.{List, [], _∷_}
-use Prim.Native.Nat.{ℕ}
+use mathlib.Core.Path.{sym}
 use Rattle.printing.proofs.Runs.{appended-of}
-use Rattle.worked_table.specs.Questions as questions
-use Rattle.worked_table.specs.Questions.{ask}
-use Rattle.worked.specs.Lines.{typed, bothAccepted, answerLine, line}
+use Rattle.worked.specs.Lines.{answerLine, line}
 use borrow.Author.Needs.{needs}
 use Rattle.worked.proofs.contracts.run_c2.Statement.{statement}
 use Rattle.worked.proofs.contracts.run_c2.Tie as tie
