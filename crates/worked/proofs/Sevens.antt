@@ -1,10 +1,9 @@
 -- Sevens: the front of a buffer of sevens.
 use mathlib.Core.Path.{_≡_, refl, ap, sym, _∙_}
-use mathlib.Core.List.{List, [], _∷_}
+use mathlib.Core.List.{List, _∷_}
 use Prim.Native.Nat.{ℕ, zero, suc, _≤_}
 use native.Mathlib.Omega.{arith}
 use lib.ListN.{length, take, length-replicate}
-use lib.Seq.{length-take-le}
 use Rattle.worked_table.specs.Questions.{lent}
 
 take-sevens : (n m : ℕ) → n ≤ m → take n (lent m) ≡ lent n

@@ -10,9 +10,7 @@ ghost use Rattle.worked.specs.Lines.{line, bothAccepted};
 use crate::questions::check_typed;
 use crate::questions::judge_typed;
 use crate::questions::run_typed;
-use crate::texts::append_check_line;
-use crate::texts::append_judge_line;
-use crate::texts::append_run_line;
+use crate::texts::append_line;
 
 // C1 copies. Nodes: symbol 0; calls of procedure 0 left and right; 1 over these two.
 fn nodes_of_c1() -> [u16; 20]
@@ -28,7 +26,7 @@ pub fn check_c1(out: &mut [u8], at: usize, name: &[u8], output_marks: &[u16], li
 {
     let nodes = nodes_of_c1();
     let answer = check_typed(&[0], output_marks, &nodes, &[0, 0, 0, 0, 1, 3], limit);
-    append_check_line(out, at, name, answer)
+    append_line(out, at, name, answer)
 }
 
 pub fn judge_c1(out: &mut [u8], at: usize, name: &[u8], numbers: &[u16]) -> usize
@@ -37,7 +35,7 @@ pub fn judge_c1(out: &mut [u8], at: usize, name: &[u8], numbers: &[u16]) -> usiz
 {
     let nodes = nodes_of_c1();
     let answer = judge_typed(&[0], &[1, 1], &nodes, &[0, 0, 0, 0, 1, 3], numbers);
-    append_judge_line(out, at, name, answer)
+    append_line(out, at, name, answer)
 }
 
 // C2 gives the spine of a document. Nodes: symbol 0; a call of procedure 1 right with node 0; parameter 1; 1 over nodes 0
@@ -76,7 +74,7 @@ pub fn run_c2(out: &mut [u8], at: usize, name: &[u8], room: usize, numbers: &[u1
     ];
     let rules = [0u16, 0, 0, 0, 1, 1, 1, 0, 2, 1, 1, 4];
     let answer = run_typed(&[0, 1], &[1, 1], &nodes, &rules, room, numbers);
-    append_run_line(out, at, name, answer)
+    append_line(out, at, name, answer)
 }
 
 // C3 passes on an argument without an output. Nodes: a call of procedure 2 left; a call of procedure 1 left with node 0;
@@ -94,7 +92,7 @@ pub fn check_c3(out: &mut [u8], at: usize, name: &[u8], output_marks: &[u16], li
 {
     let nodes = nodes_of_c3();
     let answer = check_typed(&[0, 1, 0], output_marks, &nodes, &[0, 1, 1, 1, 0, 2], limit);
-    append_check_line(out, at, name, answer)
+    append_line(out, at, name, answer)
 }
 
 pub fn run_c3(out: &mut [u8], at: usize, name: &[u8], room: usize, numbers: &[u16]) -> usize
@@ -111,5 +109,5 @@ pub fn run_c3(out: &mut [u8], at: usize, name: &[u8], room: usize, numbers: &[u1
         room,
         numbers,
     );
-    append_run_line(out, at, name, answer)
+    append_line(out, at, name, answer)
 }

@@ -2,15 +2,16 @@
 ghost use mathlib.Core.Path.{_≡_};
 ghost use Prim.Native.Nat.{_≤_};
 ghost use lib.ListN.{replicate};
-ghost use Rattle.answers.specs.Numbers.{judgingAnswer, checkingAnswer, runningAnswer};
+ghost use Rattle.lines.specs.Answers.{numbered};
 ghost use Rattle.worked_table.specs.Questions as questions;
 ghost use Rattle.worked_table.specs.Questions.{ask};
 ghost use Rattle.worked.specs.Lines.{typed};
-use answers::CheckingAnswer;
-use answers::JudgingAnswer;
-use answers::RunningAnswer;
 use checking::check;
 use judging::judge;
+use lines::answer::Answer;
+use lines::answer::of_checking;
+use lines::answer::of_judging;
+use lines::answer::of_running;
 use running::run;
 
 fn row_sevens() -> [u16; 1536]
@@ -32,15 +33,15 @@ pub fn check_typed(
     nodes: &[u16],
     rules: &[u16],
     limit: usize,
-) -> CheckingAnswer
+) -> Answer
     requires { ⌜ limit ≤ 512 ⌝ }
-    ensures { λ r. ⌜ checkingAnswer r ≡ ask (typed (now (counts .entry)) (now («output_marks» .entry)) (now (nodes .entry)) (now (rules .entry))) (questions.check limit) .answer ⌝ }
+    ensures { λ r. ⌜ numbered r ≡ ask (typed (now (counts .entry)) (now («output_marks» .entry)) (now (nodes .entry)) (now (rules .entry))) (questions.check limit) .answer ⌝ }
 {
     let mut rows = row_sevens();
     let mut words = word_sevens();
     let row_numbers = 3 * limit;
     let kind_words = 5 * limit;
-    check(
+    let answer = check(
         2,
         1,
         2,
@@ -54,7 +55,8 @@ pub fn check_typed(
         limit,
         &mut rows[..row_numbers],
         &mut words[..kind_words],
-    )
+    );
+    of_checking(answer)
 }
 
 // Judges a document.
@@ -64,11 +66,11 @@ pub fn judge_typed(
     nodes: &[u16],
     rules: &[u16],
     numbers: &[u16],
-) -> JudgingAnswer
-    ensures { λ r. ⌜ judgingAnswer r ≡ ask (typed (now (counts .entry)) (now («output_marks» .entry)) (now (nodes .entry)) (now (rules .entry))) (questions.judge (now (numbers .entry))) .answer ⌝ }
+) -> Answer
+    ensures { λ r. ⌜ numbered r ≡ ask (typed (now (counts .entry)) (now («output_marks» .entry)) (now (nodes .entry)) (now (rules .entry))) (questions.judge (now (numbers .entry))) .answer ⌝ }
 {
     let mut kind = [7u64; 5];
-    judge(
+    let answer = judge(
         2,
         1,
         2,
@@ -81,7 +83,8 @@ pub fn judge_typed(
         rules,
         numbers,
         &mut kind,
-    )
+    );
+    of_judging(answer)
 }
 
 // Runs a transformation on a document, with room for some rows.
@@ -92,13 +95,13 @@ pub fn run_typed(
     rules: &[u16],
     room: usize,
     numbers: &[u16],
-) -> RunningAnswer
+) -> Answer
     requires { ⌜ room ≤ 512 ⌝ }
-    ensures { λ r. ⌜ runningAnswer r ≡ ask (typed (now (counts .entry)) (now («output_marks» .entry)) (now (nodes .entry)) (now (rules .entry))) (questions.run room (now (numbers .entry))) .answer ⌝ }
+    ensures { λ r. ⌜ numbered r ≡ ask (typed (now (counts .entry)) (now («output_marks» .entry)) (now (nodes .entry)) (now (rules .entry))) (questions.run room (now (numbers .entry))) .answer ⌝ }
 {
     let mut rows = row_sevens();
     let row_numbers = 3 * room;
-    run(
+    let answer = run(
         2,
         1,
         2,
@@ -111,5 +114,6 @@ pub fn run_typed(
         rules,
         numbers,
         &mut rows[..row_numbers],
-    )
+    );
+    of_running(answer)
 }

@@ -2,7 +2,7 @@
 use mathlib.Core.List.{[], _∷_, _++_}
 use Rattle.printing.proofs.Runs.{appended-both}
 use Rattle.worked_table.specs.Questions as questions
-use Rattle.worked_table.specs.Contracts.{C1, C2, C3}
+use Rattle.worked_table.specs.Contracts.{C1}
 use Rattle.worked.specs.Lines.{bothAccepted, line, checksOfC1}
 use borrow.Author.Needs.{needs}
 use Rattle.worked.proofs.checks_of_c1.Statement.{statement}

@@ -1,8 +1,8 @@
 -- `lines_of_c3` meets its contract: line behind line.
-use mathlib.Core.List.{[], _∷_, _++_}
+use mathlib.Core.List.{[], _∷_}
 use Rattle.printing.proofs.Runs.{appended-both}
 use Rattle.worked_table.specs.Questions as questions
-use Rattle.worked_table.specs.Contracts.{C1, C2, C3}
+use Rattle.worked_table.specs.Contracts.{C3}
 use Rattle.worked.specs.Lines.{bothAccepted, line, linesOfC3}
 use borrow.Author.Needs.{needs}
 use Rattle.worked.proofs.lines_of_c3.Statement.{statement}

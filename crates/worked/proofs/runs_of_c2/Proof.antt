@@ -2,8 +2,8 @@
 use mathlib.Core.List.{[], _∷_, _++_}
 use Rattle.printing.proofs.Runs.{appended-both}
 use Rattle.worked_table.specs.Questions as questions
-use Rattle.worked_table.specs.Contracts.{C1, C2, C3}
-use Rattle.worked.specs.Lines.{bothAccepted, line, runsOfC2}
+use Rattle.worked_table.specs.Contracts.{C2}
+use Rattle.worked.specs.Lines.{line, runsOfC2}
 use borrow.Author.Needs.{needs}
 use Rattle.worked.proofs.runs_of_c2.Statement.{statement}
 use Rattle.worked.proofs.runs_of_c2.Tie as tie

@@ -5,7 +5,7 @@ use Prim.Native.Nat.{ℕ}
 use Rattle.printing.proofs.Runs.{appended-of}
 use Rattle.worked_table.specs.Questions as questions
 use Rattle.worked_table.specs.Questions.{ask}
-use Rattle.worked.specs.Lines.{typed, bothAccepted, answerLine, line}
+use Rattle.worked.specs.Lines.{typed, answerLine, line}
 use borrow.Author.Needs.{needs}
 use Rattle.worked.proofs.contracts.check_c1.Statement.{statement}
 use Rattle.worked.proofs.contracts.check_c1.Tie as tie
@@ -25,8 +25,8 @@ slice-aggregate-check-typed-3 c = search needs
 check-typed-requires : tie.Need-check-typed-requires
 check-typed-requires c κs = search needs
 
-append-check-line-requires : tie.Need-append-check-line-requires
-append-check-line-requires c κs = search needs
+append-line-requires : tie.Need-append-line-requires
+append-line-requires c κs = search needs
 
 same-length : tie.Need-same-length
 same-length c = search needs
@@ -35,7 +35,7 @@ returns : tie.Need-returns
 unfolding line
 returns c =
     let a = c .before .before .before .before .before .before .before .before .before .before .before .before .args in
-    appended-of (a .out .now) (a .at) (answerLine (a .name .now)) (sym (c .before .before .before .before .check-typed .ensures ∙ ap (λ (nodes : List ℕ). ask (typed (0 ∷ []) (a .output-marks .now) nodes (0 ∷ 0 ∷ 0 ∷ 0 ∷ 1 ∷ 3 ∷ [])) (questions.check (a .limit)) .answer) (c .before .before .before .before .before .before .before .before .nodes-of-c1 .ensures))) (c .before .before .append-check-line .ensures)
+    appended-of (a .out .now) (a .at) (answerLine (a .name .now)) (sym (c .before .before .before .before .check-typed .ensures ∙ ap (λ (nodes : List ℕ). ask (typed (0 ∷ []) (a .output-marks .now) nodes (0 ∷ 0 ∷ 0 ∷ 0 ∷ 1 ∷ 3 ∷ [])) (questions.check (a .limit)) .answer) (c .before .before .before .before .before .before .before .before .nodes-of-c1 .ensures))) (c .before .before .append-line .ensures)
 
 pub check-c1-spec : {M : Type 1} → statement M
 check-c1-spec =
@@ -46,6 +46,6 @@ check-c1-spec =
     slice-aggregate-check-typed-2
     slice-aggregate-check-typed-3
     check-typed-requires
-    append-check-line-requires
+    append-line-requires
     same-length
     returns)

@@ -28,8 +28,8 @@ slice-aggregate-judge-typed-4 c = search needs
 judge-typed-requires : tie.Need-judge-typed-requires
 judge-typed-requires c κs = search needs
 
-append-judge-line-requires : tie.Need-append-judge-line-requires
-append-judge-line-requires c κs = search needs
+append-line-requires : tie.Need-append-line-requires
+append-line-requires c κs = search needs
 
 same-length : tie.Need-same-length
 same-length c = search needs
@@ -38,7 +38,7 @@ returns : tie.Need-returns
 unfolding line
 returns c =
     let a = c .before .before .before .before .before .before .before .before .before .before .before .before .before .args in
-    appended-of (a .out .now) (a .at) (answerLine (a .name .now)) (sym (c .before .before .before .before .judge-typed .ensures ∙ ap (λ (nodes : List ℕ). ask (typed (0 ∷ []) bothAccepted nodes (0 ∷ 0 ∷ 0 ∷ 0 ∷ 1 ∷ 3 ∷ [])) (questions.judge (a .numbers .now)) .answer) (c .before .before .before .before .before .before .before .before .before .nodes-of-c1 .ensures))) (c .before .before .append-judge-line .ensures)
+    appended-of (a .out .now) (a .at) (answerLine (a .name .now)) (sym (c .before .before .before .before .judge-typed .ensures ∙ ap (λ (nodes : List ℕ). ask (typed (0 ∷ []) bothAccepted nodes (0 ∷ 0 ∷ 0 ∷ 0 ∷ 1 ∷ 3 ∷ [])) (questions.judge (a .numbers .now)) .answer) (c .before .before .before .before .before .before .before .before .before .nodes-of-c1 .ensures))) (c .before .before .append-line .ensures)
 
 pub judge-c1-spec : {M : Type 1} → statement M
 judge-c1-spec =
@@ -50,6 +50,6 @@ judge-c1-spec =
     slice-aggregate-judge-typed-3
     slice-aggregate-judge-typed-4
     judge-typed-requires
-    append-judge-line-requires
+    append-line-requires
     same-length
     returns)

@@ -1,11 +1,7 @@
 -- `run_c2` meets its contract: the line of the answer that the definitions give.
-use mathlib.Core.Path.{sym, ap, _∙_}
-use mathlib.Core.List.{List, [], _∷_}
-use Prim.Native.Nat.{ℕ}
+use mathlib.Core.Path.{sym}
 use Rattle.printing.proofs.Runs.{appended-of}
-use Rattle.worked_table.specs.Questions as questions
-use Rattle.worked_table.specs.Questions.{ask}
-use Rattle.worked.specs.Lines.{typed, bothAccepted, answerLine, line}
+use Rattle.worked.specs.Lines.{answerLine, line}
 use borrow.Author.Needs.{needs}
 use Rattle.worked.proofs.contracts.run_c2.Statement.{statement}
 use Rattle.worked.proofs.contracts.run_c2.Tie as tie
@@ -25,8 +21,8 @@ slice-aggregate-run-typed-4 c = search needs
 run-typed-requires : tie.Need-run-typed-requires
 run-typed-requires c κs = search needs
 
-append-run-line-requires : tie.Need-append-run-line-requires
-append-run-line-requires c κs = search needs
+append-line-requires : tie.Need-append-line-requires
+append-line-requires c κs = search needs
 
 same-length : tie.Need-same-length
 same-length c = search needs
@@ -35,7 +31,7 @@ returns : tie.Need-returns
 unfolding line
 returns c =
     let a = c .before .before .before .before .before .before .before .before .before .before .before .before .args in
-    appended-of (a .out .now) (a .at) (answerLine (a .name .now)) (sym (c .before .before .before .before .run-typed .ensures)) (c .before .before .append-run-line .ensures)
+    appended-of (a .out .now) (a .at) (answerLine (a .name .now)) (sym (c .before .before .before .before .run-typed .ensures)) (c .before .before .append-line .ensures)
 
 pub run-c2-spec : {M : Type 1} → statement M
 run-c2-spec =
@@ -46,6 +42,6 @@ run-c2-spec =
     slice-aggregate-run-typed-3
     slice-aggregate-run-typed-4
     run-typed-requires
-    append-run-line-requires
+    append-line-requires
     same-length
     returns)

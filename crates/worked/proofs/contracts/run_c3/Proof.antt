@@ -28,8 +28,8 @@ slice-aggregate-run-typed-4 c = search needs
 run-typed-requires : tie.Need-run-typed-requires
 run-typed-requires c κs = search needs
 
-append-run-line-requires : tie.Need-append-run-line-requires
-append-run-line-requires c κs = search needs
+append-line-requires : tie.Need-append-line-requires
+append-line-requires c κs = search needs
 
 same-length : tie.Need-same-length
 same-length c = search needs
@@ -38,7 +38,7 @@ returns : tie.Need-returns
 unfolding line
 returns c =
     let a = c .before .before .before .before .before .before .before .before .before .before .before .before .before .args in
-    appended-of (a .out .now) (a .at) (answerLine (a .name .now)) (sym (c .before .before .before .before .run-typed .ensures ∙ ap (λ (nodes : List ℕ). ask (typed (0 ∷ 1 ∷ 0 ∷ []) bothAccepted nodes (0 ∷ 1 ∷ 1 ∷ 1 ∷ 0 ∷ 2 ∷ [])) (questions.run (a .room) (a .numbers .now)) .answer) (c .before .before .before .before .before .before .before .before .before .nodes-of-c3 .ensures))) (c .before .before .append-run-line .ensures)
+    appended-of (a .out .now) (a .at) (answerLine (a .name .now)) (sym (c .before .before .before .before .run-typed .ensures ∙ ap (λ (nodes : List ℕ). ask (typed (0 ∷ 1 ∷ 0 ∷ []) bothAccepted nodes (0 ∷ 1 ∷ 1 ∷ 1 ∷ 0 ∷ 2 ∷ [])) (questions.run (a .room) (a .numbers .now)) .answer) (c .before .before .before .before .before .before .before .before .before .nodes-of-c3 .ensures))) (c .before .before .append-line .ensures)
 
 pub run-c3-spec : {M : Type 1} → statement M
 run-c3-spec =
@@ -50,6 +50,6 @@ run-c3-spec =
     slice-aggregate-run-typed-3
     slice-aggregate-run-typed-4
     run-typed-requires
-    append-run-line-requires
+    append-line-requires
     same-length
     returns)

@@ -1,5 +1,5 @@
 -- `check_typed` meets its contract: what is lent holds sevens.
-use mathlib.Core.Path.{_≡_, ap, ap₂, _∙_}
+use mathlib.Core.Path.{ap₂, _∙_}
 use mathlib.Core.List.{List}
 use Prim.Native.Nat.{ℕ, _*_}
 use native.Mathlib.Omega.{arith}
@@ -47,11 +47,14 @@ slice-aggregate-check-5 c = sevens-length (5 * c .before .before .before .before
 check-requires : tie.Need-check-requires
 check-requires c κs = search needs
 
+of-checking-requires : tie.Need-of-checking-requires
+of-checking-requires c κs = search needs
+
 returns : tie.Need-returns
 unfolding ask
 returns c =
-    let a = c .before .before .before .before .before .before .before .before .before .before .before .before .before .before .args in
-    c .before .before .check .ensures .answered ∙ ap₂ (λ (rows words : List ℕ). checking (typed (a .counts .now) (a .output-marks .now) (a .nodes .now) (a .rules .now)) (a .limit) rows words .answer) (sevens (3 * a .limit) 1536 (omega arith) (c .before .before .before .before .before .before .before .before .before .row-sevens .ensures)) (sevens (5 * a .limit) 2560 (omega arith) (c .before .before .before .before .before .before .before .before .word-sevens .ensures))
+    let a = c .before .before .before .before .before .before .before .before .before .before .before .before .before .before .before .args in
+    c .of-checking .ensures ∙ c .before .before .before .check .ensures .answered ∙ ap₂ (λ (rows words : List ℕ). checking (typed (a .counts .now) (a .output-marks .now) (a .nodes .now) (a .rules .now)) (a .limit) rows words .answer) (sevens (3 * a .limit) 1536 (omega arith) (c .before .before .before .before .before .before .before .before .before .before .row-sevens .ensures)) (sevens (5 * a .limit) 2560 (omega arith) (c .before .before .before .before .before .before .before .before .before .word-sevens .ensures))
 
 pub check-typed-spec : {M : Type 1} → statement M
 check-typed-spec =
@@ -69,4 +72,5 @@ check-typed-spec =
     array-borrow-prefix-words
     slice-aggregate-check-5
     check-requires
+    of-checking-requires
     returns)

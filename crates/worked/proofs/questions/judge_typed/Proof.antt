@@ -1,4 +1,5 @@
 -- `judge_typed` meets its contract: what is lent holds sevens.
+use mathlib.Core.Path.{_∙_}
 use Rattle.worked_table.specs.Questions.{ask}
 use borrow.Author.Needs.{needs}
 use Rattle.worked.proofs.questions.judge_typed.Statement.{statement}
@@ -19,9 +20,12 @@ slice-aggregate-judge-4 c = search needs
 judge-requires : tie.Need-judge-requires
 judge-requires c κs = search needs
 
+of-judging-requires : tie.Need-of-judging-requires
+of-judging-requires c κs = search needs
+
 returns : tie.Need-returns
 unfolding ask
-returns c = c .before .judge .ensures .answers
+returns c = c .of-judging .ensures ∙ c .before .before .judge .ensures .answers
 
 pub judge-typed-spec : {M : Type 1} → statement M
 judge-typed-spec =
@@ -32,4 +36,5 @@ judge-typed-spec =
     slice-aggregate-judge-3
     slice-aggregate-judge-4
     judge-requires
+    of-judging-requires
     returns)

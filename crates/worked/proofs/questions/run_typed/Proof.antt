@@ -1,5 +1,5 @@
 -- `run_typed` meets its contract: what is lent holds sevens.
-use mathlib.Core.Path.{_≡_, ap, ap₂, _∙_}
+use mathlib.Core.Path.{ap, _∙_}
 use mathlib.Core.List.{List}
 use Prim.Native.Nat.{ℕ, _*_}
 use native.Mathlib.Omega.{arith}
@@ -35,11 +35,14 @@ slice-aggregate-run-4 c = sevens-length (3 * c .before .before .before .before .
 run-requires : tie.Need-run-requires
 run-requires c κs = search needs
 
+of-running-requires : tie.Need-of-running-requires
+of-running-requires c κs = search needs
+
 returns : tie.Need-returns
 unfolding ask
 returns c =
-    let a = c .before .before .before .before .before .before .before .before .before .before .before .before .args in
-    c .before .run .ensures .answered ∙ ap (λ (rows : List ℕ). running (typed (a .counts .now) (a .output-marks .now) (a .nodes .now) (a .rules .now)) (a .numbers .now) rows .answer) (sevens (3 * a .room) 1536 (omega arith) (c .before .before .before .before .before .before .row-sevens .ensures))
+    let a = c .before .before .before .before .before .before .before .before .before .before .before .before .before .args in
+    c .of-running .ensures ∙ c .before .before .run .ensures .answered ∙ ap (λ (rows : List ℕ). running (typed (a .counts .now) (a .output-marks .now) (a .nodes .now) (a .rules .now)) (a .numbers .now) rows .answer) (sevens (3 * a .room) 1536 (omega arith) (c .before .before .before .before .before .before .before .row-sevens .ensures))
 
 pub run-typed-spec : {M : Type 1} → statement M
 run-typed-spec =
@@ -53,4 +56,5 @@ run-typed-spec =
     array-borrow-prefix-rows
     slice-aggregate-run-4
     run-requires
+    of-running-requires
     returns)
