@@ -118,12 +118,12 @@ module _ (C : Contract) where
   unfolding kindOf
   kind-node s l r left right k el er ek = ek ∙ rw (el, er, kind-taken l, kind-taken r)
 
-module _ (lay : Layout) (offsets reached lengths counts rows table nodes rules : List ℕ) where
+module _ (lay : Layout) (offsets lists counts rows table nodes rules : List ℕ) where
   -- the kind of a tree, for every contract that the tables are prepared for
   abbrev pub IsKindOf : Tree → List ℕ → Type 0
   IsKindOf t kind =
       (S I : ℕ) (inputMarks outputMarks : List ℕ)
-      → Prepared (contract S I (lay .states) counts rows inputMarks table outputMarks nodes rules) lay offsets reached lengths
+      → Prepared (contract S I (lay .states) counts rows inputMarks table outputMarks nodes rules) lay offsets lists
       → kind ≡ kindOf (contract S I (lay .states) counts rows inputMarks table outputMarks nodes rules) t ++ (0 ∷ [])
 
   -- the kinds of the places from n on are kept

@@ -58,8 +58,7 @@ fn put_kind(kinds: &mut [u64; 6138], place: usize, kind: &[u64; 6])
 fn kind_of_place(
     layout: Layout,
     offsets: &[u16; 16],
-    reached: &[u16; 4096],
-    lengths: &[u16; 16],
+    lists: &[u16],
     counts: &[u16],
     rows: &[u16],
     table: &[u16],
@@ -71,8 +70,8 @@ fn kind_of_place(
     empty: [u64; 6],
     i: usize,
 ) -> [u64; 6]
-    requires { ⌜ Ready (layoutOf layout) (now offsets) (now reached) (now lengths) (now counts) (now rows) (now table) (now nodes) (now rules) × Readable (now numbers) × (length (now numbers) ≤ mostNumbers) × Symbols (now numbers) × (i < length (now numbers)) × EndsFrom 0 (now numbers) (now ends) × IsEmptyKind (layoutOf layout) (now offsets) (now reached) (now lengths) (now counts) (now rows) (now table) (now nodes) (now rules) empty × StoredFrom (layoutOf layout) (now offsets) (now reached) (now lengths) (now counts) (now rows) (now table) (now nodes) (now rules) (i + 1) (now numbers) (now kinds) ⌝ }
-    ensures { λ r. ⌜ IsKindOf (layoutOf layout) (now (offsets .entry)) (now (reached .entry)) (now (lengths .entry)) (now (counts .entry)) (now (rows .entry)) (now (table .entry)) (now (nodes .entry)) (now (rules .entry)) (treeFrom (now (numbers .entry)) i) r ⌝ }
+    requires { ⌜ Ready (layoutOf layout) (now offsets) (now lists) (now counts) (now rows) (now table) (now nodes) (now rules) × Readable (now numbers) × (length (now numbers) ≤ mostNumbers) × Symbols (now numbers) × (i < length (now numbers)) × EndsFrom 0 (now numbers) (now ends) × IsEmptyKind (layoutOf layout) (now offsets) (now lists) (now counts) (now rows) (now table) (now nodes) (now rules) empty × StoredFrom (layoutOf layout) (now offsets) (now lists) (now counts) (now rows) (now table) (now nodes) (now rules) (i + 1) (now numbers) (now kinds) ⌝ }
+    ensures { λ r. ⌜ IsKindOf (layoutOf layout) (now (offsets .entry)) (now (lists .entry)) (now (counts .entry)) (now (rows .entry)) (now (table .entry)) (now (nodes .entry)) (now (rules .entry)) (treeFrom (now (numbers .entry)) i) r ⌝ }
 {
     let symbol = Symbol(numbers[i]);
     if symbol.0 == 0 {
@@ -83,8 +82,7 @@ fn kind_of_place(
     next_kind(
         layout,
         offsets,
-        reached,
-        lengths,
+        lists,
         counts,
         rows,
         table,
@@ -100,8 +98,7 @@ fn kind_of_place(
 pub fn document_kind(
     layout: Layout,
     offsets: &[u16; 16],
-    reached: &[u16; 4096],
-    lengths: &[u16; 16],
+    lists: &[u16],
     counts: &[u16],
     rows: &[u16],
     table: &[u16],
@@ -109,21 +106,11 @@ pub fn document_kind(
     rules: &[u16],
     numbers: &[u16],
 ) -> [u64; 6]
-    requires { ⌜ Ready (layoutOf layout) (now offsets) (now reached) (now lengths) (now counts) (now rows) (now table) (now nodes) (now rules) × Readable (now numbers) × (1 ≤ length (now numbers)) × (length (now numbers) ≤ mostNumbers) × Symbols (now numbers) ⌝ }
-    ensures { λ r. ⌜ IsKindOf (layoutOf layout) (now (offsets .entry)) (now (reached .entry)) (now (lengths .entry)) (now (counts .entry)) (now (rows .entry)) (now (table .entry)) (now (nodes .entry)) (now (rules .entry)) (treeFrom (now (numbers .entry)) 0) r ⌝ }
+    requires { ⌜ Ready (layoutOf layout) (now offsets) (now lists) (now counts) (now rows) (now table) (now nodes) (now rules) × Readable (now numbers) × (1 ≤ length (now numbers)) × (length (now numbers) ≤ mostNumbers) × Symbols (now numbers) ⌝ }
+    ensures { λ r. ⌜ IsKindOf (layoutOf layout) (now (offsets .entry)) (now (lists .entry)) (now (counts .entry)) (now (rows .entry)) (now (table .entry)) (now (nodes .entry)) (now (rules .entry)) (treeFrom (now (numbers .entry)) 0) r ⌝ }
 {
     let ends = tree_ends(numbers);
-    let empty = empty_kind(
-        layout,
-        offsets,
-        reached,
-        lengths,
-        counts,
-        rows,
-        table,
-        nodes,
-        rules,
-    );
+    let empty = empty_kind(layout, offsets, lists, counts, rows, table, nodes, rules);
     let mut kinds = no_kinds();
     let mut i = numbers.len();
     while 0 < i {
@@ -131,8 +118,7 @@ pub fn document_kind(
         let kind = kind_of_place(
             layout,
             offsets,
-            reached,
-            lengths,
+            lists,
             counts,
             rows,
             table,

@@ -9,50 +9,50 @@ use Rattle.document_kinds.proofs.document_kind.Statement.{statement}
 use Rattle.document_kinds.proofs.document_kind.Tie as tie
 
 abbrev Inv-loop : tie.InvT-loop
-Inv-loop layout offsets reached lengths counts rows table nodes rules numbers ends empty kinds₀ i₀ kinds i = (i ≤ length numbers) × StoredFrom (layoutOf layout) offsets reached lengths counts rows table nodes rules i numbers kinds
+Inv-loop layout offsets lists counts rows table nodes rules numbers ends empty kinds₀ i₀ kinds i = (i ≤ length numbers) × StoredFrom (layoutOf layout) offsets lists counts rows table nodes rules i numbers kinds
 
 abbrev μ-loop : tie.MeasureT-loop
-μ-loop layout offsets reached lengths counts rows table nodes rules numbers ends empty kinds₀ i₀ kinds i = i
+μ-loop layout offsets lists counts rows table nodes rules numbers ends empty kinds₀ i₀ kinds i = i
 
 tree-ends-requires : tie.Need-tree-ends-requires Inv-loop μ-loop
 tree-ends-requires c κs =
-    let pre = c .before .before .before .before .before .before .pre in
+    let pre = c .before .before .before .before .before .before .before .pre in
     (pre .1, pre .3)
 
 empty-kind-requires : tie.Need-empty-kind-requires Inv-loop μ-loop
-empty-kind-requires c κs = c .before .before .before .before .before .before .before .pre .0
+empty-kind-requires c κs = c .before .before .before .before .before .before .before .before .pre .0
 
 no-kinds-requires : tie.Need-no-kinds-requires Inv-loop μ-loop
 no-kinds-requires c κs = tt
 
 loop-holds : tie.Need-loop-holds Inv-loop μ-loop
-loop-holds c = (omega arith, stored-none _ _ _ _ _ _ _ _ _ _ _ (rw (c .no-kinds .ensures) (length-replicate {A = ℕ} 6138 0)))
+loop-holds c = (omega arith, stored-none _ _ _ _ _ _ _ _ _ _ (rw (c .no-kinds .ensures) (length-replicate {A = ℕ} 6138 0)))
 
 sub-i : tie.Need-sub-i Inv-loop μ-loop
 sub-i c = omega arith
 
 kind-of-place-requires : tie.Need-kind-of-place-requires Inv-loop μ-loop
 kind-of-place-requires c κs =
-    let pre = c .before .before .before .before .before .before .before .before .before .before .before .before .before .pre in
+    let pre = c .before .before .before .before .before .before .before .before .before .before .before .before .before .before .pre in
     let loop = c .before .before .before .loop in
     let e : loop .i - 1 + 1 ≡ loop .i = omega arith in
     (pre .0, pre .1, pre .3, pre .4, omega arith, c .before .before .before .before .before .before .tree-ends .ensures, c .before .before .before .before .before .empty-kind .ensures, rw e (loop .inv .1))
 
 put-kind-requires : tie.Need-put-kind-requires Inv-loop μ-loop
-put-kind-requires c κs = omega (arith, c .before .before .before .before .before .before .before .before .before .before .before .before .before .before .before .before .pre .3)
+put-kind-requires c κs = omega (arith, c .before .before .before .before .before .before .before .before .before .before .before .before .before .before .before .before .before .pre .3)
 
 loop-less : tie.Need-loop-less Inv-loop μ-loop
 loop-less c = omega arith
 
 loop-again : tie.Need-loop-again Inv-loop μ-loop
 loop-again c =
-    let pre = c .before .before .before .before .before .before .before .before .before .before .before .before .before .before .before .before .before .pre in
+    let pre = c .before .before .before .before .before .before .before .before .before .before .before .before .before .before .before .before .before .before .pre in
     let loop = c .before .before .before .before .before .before .before .loop in
     let e : loop .i ≡ suc (loop .i - 1) = omega arith in
     let r = pre .0 in
     let k = c .before .before .before .kind-of-place .ensures (r .symbols) (r .inputStates) (r .inputMarks) (r .outputMarks) (r .prepared) in
     let long : length (c .before .before .before .kind-of-place .result) ≡ 6 = ap length k ∙ kind-six _ _ in
-    (omega arith, stored-more _ _ _ _ _ _ _ _ _ (loop .i - 1) _ (loop .kinds) _ (c .before .before .before .kind-of-place .result) (rw e at (loop .inv .1)) (omega (arith, pre .3)) long (c .before .before .before .kind-of-place .ensures) (c .put-kind .ensures))
+    (omega arith, stored-more _ _ _ _ _ _ _ _ (loop .i - 1) _ (loop .kinds) _ (c .before .before .before .kind-of-place .result) (rw e at (loop .inv .1)) (omega (arith, pre .3)) long (c .before .before .before .kind-of-place .ensures) (c .put-kind .ensures))
 
 kind-at-requires : tie.Need-kind-at-requires Inv-loop μ-loop
 kind-at-requires c κs = omega arith
@@ -62,7 +62,7 @@ returns c =
     let loop = c .before .before .before .loop in
     let e : loop .i ≡ 0 = omega arith in
     λ S I inputMarks outputMarks prepared.
-    c .kind-at .ensures ∙ loop .inv .1 .kept 0 (omega arith) (omega (arith, c .before .before .before .before .before .before .before .before .before .before .before .before .before .pre .2)) S I inputMarks outputMarks prepared
+    c .kind-at .ensures ∙ loop .inv .1 .kept 0 (omega arith) (omega (arith, c .before .before .before .before .before .before .before .before .before .before .before .before .before .before .pre .2)) S I inputMarks outputMarks prepared
 
 pub document-kind-spec : {M : Type 1} → statement M
 document-kind-spec =

@@ -11,7 +11,7 @@ use Rattle.masks.proofs.mask_of.Statement.{statement}
 use Rattle.masks.proofs.mask_of.Tie as tie
 
 states-seen-requires : tie.Need-states-seen-requires
-states-seen-requires c κs = state-small _ (c .before .before .before .before .before .before .before .pre .0 .established) (c .before .before .before .before .before .before .before .args .on-right)
+states-seen-requires c κs = state-small _ (c .before .before .before .before .before .before .before .before .pre .0 .established) (c .before .before .before .before .before .before .before .before .args .on-right)
 
 facts-seen-requires : tie.Need-facts-seen-requires
 facts-seen-requires c κs = search needs
@@ -21,8 +21,8 @@ joined-mask-requires c κs = search needs
 
 returns : tie.Need-returns
 returns c =
-    let args = c .before .before .before .before .before .before .before .before .before .before .before .args in
-    let placed = c .before .before .before .before .before .before .before .before .before .before .before .pre .0 in
+    let args = c .before .before .before .before .before .before .before .before .before .before .before .before .args in
+    let placed = c .before .before .before .before .before .before .before .before .before .before .before .before .pre .0 in
     let C : Contract =
     contract (args .symbols) (args .input-states) (args .output-states) (args .counts .now) (args .input-rows .now) (args .input-marks .now)
     (args .output-table .now) (args .output-marks .now) (args .nodes .now) (args .rules .now) in
@@ -30,7 +30,7 @@ returns c =
     let e : c .joined-mask .result ≡ joined (statesSeen (args .input-rows .now) (args .symbol .0) (args .on-right)) facts =
     c .joined-mask .ensures ∙ ap (λ (w : ℕ). joined w facts) (c .before .before .before .states-seen .ensures) in
     subst (λ (m : List ℕ). Sees C (args .symbol .0) (args .on-right) (maskIn m 0)) (sym e)
-    (joined-sees C (placed .established) (args .reached .now) (args .lengths .now) (placed .lists) (args .symbol .0) (c .before .before .before .before .before .before .before .before .before .before .before .pre .1) (args .on-right) facts (c .before .before .facts-seen .ensures))
+    (joined-sees C (placed .established) (args .lists .now) (placed .lists) (args .symbol .0) (c .before .before .before .before .before .before .before .before .before .before .before .before .pre .1) (args .on-right) facts (c .before .before .facts-seen .ensures))
 
 pub mask-of-spec : {M : Type 1} → statement M
 mask-of-spec =
