@@ -7,6 +7,7 @@
 //! * [`script`]: scripts of questions, played on any engine.
 //! * [`generator`]: random contracts, documents and rows, valid and damaged, from a seed.
 //! * [`comparison`]: two engines asked the same random questions.
+//! * [`timing`]: how long a check takes.
 
 pub mod comparison;
 pub mod contract;
@@ -15,3 +16,4 @@ pub mod generator;
 pub mod library;
 pub mod model;
 pub mod script;
+pub mod timing;

@@ -60,9 +60,8 @@ fn agrees(script: &Path, answers: &Path) -> bool {
     let right = std::fs::read_to_string(answers).expect("the answers");
     let lines = right.lines().count();
     let same = said.lines().zip(right.lines()).filter(|(said, right)| said == right).count();
-    let checks = if Library::CHECKS { "proved" } else { "by the model" };
     println!(
-        "{}: {same} of {lines} lines agree; admit {}, judge {}, check {} ({checks}), run {}, write {}",
+        "{}: {same} of {lines} lines agree; admit {}, judge {}, check {}, run {}, write {}",
         script.file_name().expect("a name").to_string_lossy(),
         engine.admissions.get(),
         engine.judgings.get(),
@@ -96,6 +95,12 @@ fn vectors() {
 fn worked_example() {
     let script = include_bytes!("../../examples/worked.script");
     assert_eq!(play(&Library::default(), script), include_str!("../../examples/worked.answers"));
+}
+
+#[test]
+fn every_answer() {
+    let script = include_bytes!("../../examples/answers.script");
+    assert_eq!(play(&Library::default(), script), include_str!("../../examples/answers.answers"));
 }
 
 #[test]
