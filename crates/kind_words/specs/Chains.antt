@@ -7,7 +7,9 @@ use native.Mathlib.Nat.{not-suc-le-zero}
 use native.Mathlib.Omega.{arith}
 use native.Mathlib.Decide.{ℕ-discrete}
 use lib.ListN.{length, getD, set, length-set}
+use lib.Bits.{bitOr, or-zero-r}
 use lib.Seq.{getD-set-same, getD-set-other}
+use Rattle.foundation.specs.Bits.{orTo, or-none, or-more}
 
 -- what does not change from r to k is the same at both
 pub unchanged : {A : Type 0} (f : ℕ → A) (r k : ℕ) → r ≤ k → ((j : ℕ) → r ≤ j → j < k → f j ≡ f (suc j)) → f r ≡ f k
@@ -30,6 +32,19 @@ module _ (symbolOf : ℕ → ℕ) (n : ℕ) where
   pub record Chained (firsts nexts from : ℕ) (table : List ℕ) : Type 0 where
     pub first : (s : ℕ) → s < 16 → NextFrom s from (getD table (firsts + s) 0)
     pub next : (r : ℕ) → from ≤ r → r < n → NextFrom (symbolOf r) (r + 1) (getD table (nexts + r) 0)
+
+  -- the join over the chain of symbol s, where the numbers of other symbols give nothing
+  module _ (s : ℕ) (g : ℕ → ℕ) (nothing : (j : ℕ) → (symbolOf j ≡ s → ⊥) → 0 ≡ g j) where
+    or-passed : (r k : ℕ) → NextFrom s r k → orTo g r ≡ orTo g k
+    unfolding orTo
+    or-passed r k is =
+        unchanged (orTo g) r k (is .after) (λ j x y. sym (or-zero-r (orTo g j)) ∙ ap (bitOr (orTo g j)) (nothing j (is .none j x y)))
+
+    pub or-first : (k : ℕ) → NextFrom s 0 k → 0 ≡ orTo g k
+    or-first k is = or-none g ∙ or-passed 0 k is
+
+    pub or-next : (current one r k : ℕ) → current ≡ orTo g r → one ≡ g r → NextFrom s (r + 1) k → bitOr current one ≡ orTo g k
+    or-next current one r k e f is = or-more g r current one e f ∙ or-passed (r + 1) k is
 
   -- two tables that have the same at these places
   pub record SameChains (firsts nexts : ℕ) (before after : List ℕ) : Type 0 where

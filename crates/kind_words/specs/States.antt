@@ -7,17 +7,17 @@ use native.Mathlib.Nat.{add-zero}
 use native.Mathlib.Decide.{ℕ-discrete}
 use borrow.Author.Tests.{eq-eqb, ne-eqb}
 use lib.Dec.{eqb}
-use lib.Bits.{bitAnd, bitOr, or-zero-r}
+use lib.Bits.{bitAnd, bitOr}
 use lib.ListN.{getD}
 use lib.Pow.{pow-pos}
 use Rattle.foundation.specs.Words.{bit, word}
 use Rattle.foundation.specs.Tests.{_and_, same, some-cong}
 use Rattle.foundation.specs.TestLaws.{and-false, same-yes, same-no, same-turned}
-use Rattle.foundation.specs.Bits.{word-unique, bit-and, bit-shr, bit-zero, orTo, orTo-bit, orTo-lt, or-none, or-more}
+use Rattle.foundation.specs.Bits.{word-unique, bit-and, bit-shr, bit-zero, orTo, orTo-bit, orTo-lt}
 use Rattle.model.specs.Tables.{Contract, inputRow, inputRowCount}
 use Rattle.model.specs.Kinds.{reachedNext, stateIn}
 use Rattle.kind_words.specs.Blocks.{one-at}
-use Rattle.kind_words.specs.Chains.{NextFrom, unchanged}
+use Rattle.kind_words.specs.Chains.{NextFrom, or-first, or-next}
 
 -- an input row's word: its state's bit, if it is a row of symbol s and its child states are in a and b
 unfoldable pub rowState : (rows : List ℕ) (s a b : ℕ) → ℕ → ℕ
@@ -42,23 +42,17 @@ row-skipped rows s a b r ne = rw (ne-eqb (inputRow rows r .symbol) s ne)
 abbrev pub rowStates : (rows : List ℕ) (s a b : ℕ) → ℕ → ℕ
 rowStates rows s a b n = orTo (rowState rows s a b) n
 
--- the rows of symbol s in a chain: those between a row and the next one change nothing
+-- the rows of symbol s in a chain
 module _ (rows : List ℕ) (s a b : ℕ) where
   abbrev ChainNext : ℕ → ℕ → Type 0
   ChainNext r k = NextFrom (λ i. inputRow rows i .symbol) (inputRowCount rows) s r k
 
-  states-passed : (r k : ℕ) → ChainNext r k → rowStates rows s a b r ≡ rowStates rows s a b k
-  unfolding orTo
-  states-passed r k is =
-      unchanged (rowStates rows s a b) r k (is .after)
-      (λ j x y. sym (or-zero-r (rowStates rows s a b j)) ∙ ap (bitOr (rowStates rows s a b j)) (row-skipped rows s a b j (is .none j x y)))
-
   pub states-first : (k : ℕ) → ChainNext 0 k → 0 ≡ rowStates rows s a b k
-  states-first k is = or-none (rowState rows s a b) ∙ states-passed 0 k is
+  states-first k is = or-first _ _ s (rowState rows s a b) (row-skipped rows s a b) k is
 
   pub states-next : (current one r k : ℕ) → current ≡ rowStates rows s a b r → one ≡ rowState rows s a b r → ChainNext (r + 1) k
       → bitOr current one ≡ rowStates rows s a b k
-  states-next current one r k e f is = or-more (rowState rows s a b) r current one e f ∙ states-passed (r + 1) k is
+  states-next current one r k e f is = or-next _ _ s (rowState rows s a b) (row-skipped rows s a b) current one r k e f is
 
 turned : (x y t : Bool) → ((x and y) and t) ≡ (t and (true and (x and y)))
 unfolding _and_

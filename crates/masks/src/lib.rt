@@ -9,10 +9,11 @@ ghost use Rattle.tables.specs.Tuples.{inputRowOf, nodeOf};
 ghost use Rattle.kind_lists.specs.Marks.{maskIn, Covered};
 ghost use Rattle.masks.specs.Seen.{stateOn, stateBit, statesSeen, stored, Sees, AllSee};
 ghost use Rattle.masks.specs.Calls.{onesFor, withCall, CallFits, Shown, Placed, joined};
-ghost use Rattle.kind_words.specs.Kind.{listed, listLength};
+ghost use Rattle.kind_words.specs.Kind.{listed, listLength, RowsChained};
 use blocks::assignments;
 use blocks::lane_of_ones;
 use blocks::put_block;
+use chains::rows_from;
 use lanes::place;
 use lanes::up;
 use lanes::wide;
@@ -43,18 +44,18 @@ fn state_bit(row: InputRow, symbol: Symbol, on_right: bool) -> u64
     0
 }
 
-// The states that the symbol's input rows name on a side.
-fn states_seen(rows: &[u16], symbol: Symbol, on_right: bool) -> u64
-    requires { ⌜ ((k : ℕ) → k < inputRowCount (now rows) → stateOn «on_right» (inputRow (now rows) k) < 64) ⌝ }
+// The states that the symbol's input rows name on a side: the rows in the symbol's chain.
+fn states_seen(lists: &[u16], rows: &[u16], nexts: usize, symbol: Symbol, on_right: bool) -> u64
+    requires { ⌜ ((k : ℕ) → k < inputRowCount (now rows) → stateOn «on_right» (inputRow (now rows) k) < 64) × RowsChained (now rows) (now lists) nexts × (64 ≤ nexts) × (nexts + inputRowCount (now rows) ≤ length (now lists)) × (symbol .0 < 16) ⌝ }
     ensures { λ r. ⌜ r ≡ statesSeen (now (rows .entry)) (symbol .0) «on_right» ⌝ }
 {
     let count = rows.len() / 4;
     let mut word: u64 = 0;
-    let mut k: usize = 0;
+    let mut k = place(lists[48 + place(symbol.0)]);
     while k < count {
         let row = input_row_at(rows, k);
         word = word | state_bit(row, symbol, on_right);
-        k += 1;
+        k = place(lists[nexts + k]);
     }
     word
 }
@@ -188,7 +189,8 @@ fn mask_of(
     requires { ⌜ Placed (contract symbols «input_states» «output_states» (now counts) (now «input_rows») (now «input_marks») (now «output_table») (now «output_marks») (now nodes) (now rules)) (now offsets) (now lists) × (symbol .0 < 16) ⌝ }
     ensures { λ r. ⌜ Sees (contract symbols «input_states» «output_states» (now (counts .entry)) (now («input_rows» .entry)) (now («input_marks» .entry)) (now («output_table» .entry)) (now («output_marks» .entry)) (now (nodes .entry)) (now (rules .entry))) (symbol .0) «on_right» (maskIn r 0) ⌝ }
 {
-    let states = states_seen(input_rows, symbol, on_right);
+    let nexts = rows_from(rules);
+    let states = states_seen(lists, input_rows, nexts, symbol, on_right);
     let facts = facts_seen(
         symbols,
         input_states,
