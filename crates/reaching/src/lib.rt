@@ -21,16 +21,23 @@ use tables::Symbol;
 use tables::node_at;
 use tables::rule_at;
 
-// No node is marked.
-fn no_marks() -> [u16; 256]
+// Room for the marks of at most sixteen nodes.
+fn few_marks() -> [u16; 16]
+    ensures { λ r. ⌜ r ≡ replicate 16 0 ⌝ }
+{
+    [0u16; 16]
+}
+
+// Room for the marks of as many nodes as there may be.
+fn most_marks() -> [u16; 256]
     ensures { λ r. ⌜ r ≡ replicate 256 0 ⌝ }
 {
     [0u16; 256]
 }
 
 // Marks node n, where it is used.
-fn mark(marks: &mut [u16; 256], used: bool, n: u16)
-    requires { ⌜ (used ≡ true → n < 256) ⌝ }
+fn mark(marks: &mut [u16], used: bool, n: u16)
+    requires { ⌜ (used ≡ true → n < length (now marks)) ⌝ }
     ensures { λ _. ⌜ now (marks .exit) ≡ markedIf used (now (marks .entry)) n ⌝ }
 {
     if used {
@@ -56,8 +63,8 @@ fn references_of(counts: &[u16], node: Node) -> u16
 }
 
 // Marks what node n refers to, if it is marked.
-fn mark_referred(counts: &[u16], nodes: &[u16], marks: &mut [u16; 256], n: usize)
-    requires { ⌜ NodesGood (now counts) (now nodes) × (n < nodeCount (now nodes)) ⌝ }
+fn mark_referred(counts: &[u16], nodes: &[u16], marks: &mut [u16], n: usize)
+    requires { ⌜ NodesGood (now counts) (now nodes) × (n < nodeCount (now nodes)) × (nodeCount (now nodes) ≤ length (now marks)) ⌝ }
     ensures { λ _. ⌜ now (marks .exit) ≡ referredMarked (now (counts .entry)) (now (nodes .entry)) (now (marks .entry)) n ⌝ }
 {
     if marks[n] == 1 {
@@ -69,8 +76,8 @@ fn mark_referred(counts: &[u16], nodes: &[u16], marks: &mut [u16; 256], n: usize
 }
 
 // Marks whatever a marked node refers to, directly or below: the nodes in descending order.
-fn mark_all_referred(counts: &[u16], nodes: &[u16], marks: &mut [u16; 256])
-    requires { ⌜ NodesGood (now counts) (now nodes) × (length (now marks) ≡ 256) ⌝ }
+fn mark_all_referred(counts: &[u16], nodes: &[u16], marks: &mut [u16])
+    requires { ⌜ NodesGood (now counts) (now nodes) × (nodeCount (now nodes) ≤ length (now marks)) ⌝ }
     ensures { λ _. ⌜ Closed (now (counts .entry)) (now (nodes .entry)) 0 (now (marks .entry)) (now (marks .exit)) ⌝ }
 {
     let mut n = nodes.len() / 5;
@@ -81,8 +88,8 @@ fn mark_all_referred(counts: &[u16], nodes: &[u16], marks: &mut [u16; 256])
 }
 
 // Marks the node of rule r.
-fn mark_rule(rules: &[u16], marks: &mut [u16; 256], r: usize)
-    requires { ⌜ (r < ruleCount (now rules)) × (ruleAt (now rules) r .node < 256) ⌝ }
+fn mark_rule(rules: &[u16], marks: &mut [u16], r: usize)
+    requires { ⌜ (r < ruleCount (now rules)) × (ruleAt (now rules) r .node < length (now marks)) ⌝ }
     ensures { λ _. ⌜ now (marks .exit) ≡ markedIf true (now (marks .entry)) (ruleAt (now (rules .entry)) r .node) ⌝ }
 {
     let rule = rule_at(rules, r);
@@ -90,8 +97,8 @@ fn mark_rule(rules: &[u16], marks: &mut [u16; 256], r: usize)
 }
 
 // Marks the nodes of the rules for the symbol: the rules in the symbol's chain.
-fn mark_rules(rules: &[u16], lists: &[u16], symbol: Symbol, marks: &mut [u16; 256])
-    requires { ⌜ ((r : ℕ) → r < ruleCount (now rules) → ruleAt (now rules) r .node < 256) × RulesChained (now rules) (now lists) × (64 + ruleCount (now rules) ≤ length (now lists)) × (symbol .0 < 16) × (length (now marks) ≡ 256) ⌝ }
+fn mark_rules(rules: &[u16], lists: &[u16], symbol: Symbol, marks: &mut [u16])
+    requires { ⌜ ((r : ℕ) → r < ruleCount (now rules) → ruleAt (now rules) r .node < length (now marks)) × RulesChained (now rules) (now lists) × (64 + ruleCount (now rules) ≤ length (now lists)) × (symbol .0 < 16) ⌝ }
     ensures { λ _. ⌜ RulesMarked (now (rules .entry)) (symbol .0) (ruleCount (now (rules .entry))) (now (marks .exit)) ⌝ }
 {
     let n = rules.len() / 3;
@@ -121,8 +128,8 @@ fn entry_of(n: usize) -> u16
 }
 
 // Lists the marked nodes below `count` from a place on, and returns how many they are.
-fn list_marked(marks: &[u16; 256], count: usize, lists: &mut [u16], start: usize) -> usize
-    requires { ⌜ (count ≤ 256) × (start + count ≤ length (now lists)) ⌝ }
+fn list_marked(marks: &[u16], count: usize, lists: &mut [u16], start: usize) -> usize
+    requires { ⌜ (count ≤ 256) × (count ≤ length (now marks)) × (start + count ≤ length (now lists)) ⌝ }
     ensures { λ r. ⌜ Listing (now (marks .entry)) (now (lists .entry)) (now (lists .exit)) start count r ⌝ }
 {
     let mut listed: usize = 0;
@@ -144,6 +151,24 @@ fn has_rules(rules: &[u16], lists: &[u16], symbol: Symbol) -> bool
     place(lists[32 + place(symbol.0)]) < n
 }
 
+// Lists the nodes that the rules for a symbol reach, with room for marks, and returns how many they are.
+fn list_reached(
+    counts: &[u16],
+    nodes: &[u16],
+    rules: &[u16],
+    symbol: Symbol,
+    marks: &mut [u16],
+    lists: &mut [u16],
+    start: usize,
+) -> usize
+    requires { ⌜ NodesGood (now counts) (now nodes) × RulesGood (now nodes) (now rules) × (symbol .0 < 16) × RulesChained (now rules) (now lists) × (64 + ruleCount (now rules) ≤ start) × (start + nodeCount (now nodes) ≤ length (now lists)) × (nodeCount (now nodes) ≤ length (now marks)) ⌝ }
+    ensures { λ r. ⌜ SymbolListed (now (counts .entry)) (now (nodes .entry)) (now (rules .entry)) (symbol .0) start (now (lists .entry)) (now (lists .exit)) r ⌝ }
+{
+    mark_rules(rules, lists, symbol, marks);
+    mark_all_referred(counts, nodes, marks);
+    list_marked(marks, nodes.len() / 5, lists, start)
+}
+
 // Lists the nodes that the rules for a symbol reach, and returns how many they are.
 fn list_symbol(
     counts: &[u16],
@@ -157,10 +182,12 @@ fn list_symbol(
     ensures { λ r. ⌜ SymbolListed (now (counts .entry)) (now (nodes .entry)) (now (rules .entry)) (symbol .0) start (now (lists .entry)) (now (lists .exit)) r ⌝ }
 {
     if has_rules(rules, lists, symbol) {
-        let mut marks = no_marks();
-        mark_rules(rules, lists, symbol, &mut marks);
-        mark_all_referred(counts, nodes, &mut marks);
-        return list_marked(&marks, nodes.len() / 5, lists, start);
+        if nodes.len() <= 80 {
+            let mut marks = few_marks();
+            return list_reached(counts, nodes, rules, symbol, &mut marks, lists, start);
+        }
+        let mut marks = most_marks();
+        return list_reached(counts, nodes, rules, symbol, &mut marks, lists, start);
     }
     0
 }

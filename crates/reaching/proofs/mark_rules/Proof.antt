@@ -12,7 +12,7 @@ use Rattle.reaching.proofs.mark_rules.Tie as tie
 
 abbrev Inv-loop : tie.InvT-loop
 Inv-loop rules lists marks₀ n r₀ marks r =
-    (n ≡ length rules / 3) × (r ≤ n)
+    (n ≡ length rules / 3) × (r ≤ n) × (length marks ≡ length marks₀)
     × ((s : ℕ) → NextFrom (λ i. Tables.ruleAt rules i .symbol) (Tables.ruleCount rules) s 0 r₀
     → (r < n → Tables.ruleAt rules r .symbol ≡ s) × RulesMarked rules s r marks)
 
@@ -23,67 +23,71 @@ place-requires : tie.Need-place-requires Inv-loop μ-loop
 place-requires c κs = tt
 
 add-place : tie.Need-add-place Inv-loop μ-loop
-add-place c = omega (arith, c .place .ensures, c .before .before .before .pre .3)
+add-place c = omega (arith, c .place .ensures, c .before .before .before .before .pre .3)
 
 mul-place : tie.Need-mul-place Inv-loop μ-loop
-mul-place c = omega (arith, c .place .ensures, c .before .before .before .pre .3)
+mul-place c = omega (arith, c .place .ensures, c .before .before .before .before .pre .3)
 
 shared-slice-read-place : tie.Need-shared-slice-read-place Inv-loop μ-loop
-shared-slice-read-place c = omega (arith, c .before .place .ensures, c .before .before .before .before .pre .2, c .before .before .before .before .pre .3)
+shared-slice-read-place c = omega (arith, c .before .place .ensures, c .before .before .before .before .before .pre .2, c .before .before .before .before .before .pre .3)
 
 place-requires-2 : tie.Need-place-requires-2 Inv-loop μ-loop
 place-requires-2 c κs = tt
 
 loop-holds : tie.Need-loop-holds Inv-loop μ-loop
 loop-holds c =
-    let s : ℕ = c .before .before .before .before .before .args .symbol .0 in
-    let is = c .before .before .before .before .before .pre .1 .first s (c .before .before .before .before .before .pre .3) in
-    let e : c .place2 .result ≡ getD (c .before .before .before .before .before .args .lists .now) (32 + s) 0 = c .place2 .ensures ∙ rw (c .before .before .place .ensures) in
-    (refl, omega (arith, is .most), λ t at. (at .passed, no-rules-marked _ t (c .place2 .result) _ (c .before .before .before .before .before .pre .4) at))
+    let s : ℕ = c .before .before .before .before .before .before .args .symbol .0 in
+    let is = c .before .before .before .before .before .before .pre .1 .first s (c .before .before .before .before .before .before .pre .3) in
+    let e : c .place2 .result ≡ getD (c .before .before .before .before .before .before .args .lists .now) (32 + s) 0 = c .place2 .ensures ∙ rw (c .before .before .place .ensures) in
+    (refl, omega (arith, is .most), refl, λ t at. (at .passed, no-rules-marked _ t (c .place2 .result) _ at))
 
 mark-rule-requires : tie.Need-mark-rule-requires Inv-loop μ-loop
-mark-rule-requires c κs = (omega arith, c .before .before .before .before .before .before .before .before .pre .0 (c .before .before .loop .r) (omega arith))
+mark-rule-requires c κs = (omega arith, omega (arith, c .before .before .before .before .before .before .before .before .before .pre .0 (c .before .before .loop .r) (omega arith), c .before .before .loop .inv .2))
 
 add-place-2 : tie.Need-add-place-2 Inv-loop μ-loop
-add-place-2 c = omega (arith, c .before .before .before .before .before .before .before .before .before .pre .2)
+add-place-2 c = omega (arith, c .before .before .before .before .before .before .before .before .before .before .before .before .pre .2)
 
 mul-place-2 : tie.Need-mul-place-2 Inv-loop μ-loop
-mul-place-2 c = omega (arith, c .before .before .before .before .before .before .before .before .before .pre .2)
+mul-place-2 c = omega (arith, c .before .before .before .before .before .before .before .before .before .before .before .before .pre .2)
 
 shared-slice-read-place-2 : tie.Need-shared-slice-read-place-2 Inv-loop μ-loop
-shared-slice-read-place-2 c = omega (arith, c .before .before .before .before .before .before .before .before .before .before .pre .2)
+shared-slice-read-place-2 c = omega (arith, c .before .before .before .before .before .before .before .before .before .before .before .before .before .pre .2)
 
 place-requires-3 : tie.Need-place-requires-3 Inv-loop μ-loop
 place-requires-3 c κs = tt
 
 loop-less : tie.Need-loop-less Inv-loop μ-loop
 loop-less c =
-    let is = c .before .before .before .before .before .before .before .before .before .before .before .pre .1 .next (c .before .before .before .before .before .loop .r) (omega arith) (omega arith) in
+    let is = c .before .before .before .before .before .before .before .before .before .before .before .before .before .before .pre .1 .next (c .before .before .before .before .before .before .before .loop .r) (omega arith) (omega arith) in
     omega (arith, c .place3 .ensures, is .after)
 
 loop-again : tie.Need-loop-again Inv-loop μ-loop
 loop-again c =
-    let args = c .before .before .before .before .before .before .before .before .before .before .before .args in
-    let loop = c .before .before .before .before .before .loop in
-    let is = c .before .before .before .before .before .before .before .before .before .before .before .pre .1 .next (loop .r) (omega arith) (omega arith) in
+    let args = c .before .before .before .before .before .before .before .before .before .before .before .before .before .before .args in
+    let loop = c .before .before .before .before .before .before .before .loop in
+    let is = c .before .before .before .before .before .before .before .before .before .before .before .before .before .before .pre .1 .next (loop .r) (omega arith) (omega arith) in
     let e : c .place3 .result ≡ getD (args .lists .now) (64 + loop .r) 0 = c .place3 .ensures in
     let next : NextFrom (λ i. Tables.ruleAt (args .rules .now) i .symbol) (Tables.ruleCount (args .rules .now)) (Tables.ruleAt (args .rules .now) (loop .r) .symbol) (loop .r + 1) (c .place3 .result) = rw e is in (
       loop .inv .0,
       omega (arith, next .most),
+      c .before .before .before .before .mark-rule .kept .1 .0 ∙ loop .inv .2,
       λ s at.
-          let own : Tables.ruleAt (args .rules .now) (loop .r) .symbol ≡ s = loop .inv .2 s at .0 (omega arith) in
+          let own : Tables.ruleAt (args .rules .now) (loop .r) .symbol ≡ s = loop .inv .3 s at .0 (omega arith) in
           let next′ : NextFrom (λ i. Tables.ruleAt (args .rules .now) i .symbol) (Tables.ruleCount (args .rules .now)) s (loop .r + 1) (c .place3 .result) = rw own at next in
-          (λ l. next′ .passed (omega arith), rule-marked _ s (loop .r) (c .place3 .result) (loop .marks) _ (loop .inv .2 s at .1) (c .before .before .before .before .before .before .before .before .before .before .before .pre .0 (loop .r) (omega arith)) (c .before .before .mark-rule .ensures) next′),
+          (λ l. next′ .passed (omega arith), rule-marked _ s (loop .r) (c .place3 .result) (loop .marks) _ (loop .inv .3 s at .1) (omega (arith, c .before .before .before .before .before .before .before .before .before .before .before .before .before .before .pre .0 (loop .r) (omega arith), loop .inv .2)) (c .before .before .before .before .mark-rule .ensures) next′),
     )
+
+same-length : tie.Need-same-length Inv-loop μ-loop
+same-length c = c .before .loop .inv .2
 
 returns : tie.Need-returns Inv-loop μ-loop
 returns c =
-    let args = c .before .before .before .before .before .before .before .args in
+    let args = c .before .before .before .before .before .before .before .before .args in
     let loop = c .before .loop in
     let e : loop .r ≡ length (args .rules .now) / 3 = omega arith in
     let first : c .before .before .place2 .result ≡ getD (args .lists .now) (32 + args .symbol .0) 0 = c .before .before .place2 .ensures ∙ rw (c .before .before .before .before .place .ensures) in
     subst (λ (x : ℕ). RulesMarked (args .rules .now) (args .symbol .0) x (loop .marks)) e
-    (loop .inv .2 (args .symbol .0) (rw first (c .before .before .before .before .before .before .before .pre .1 .first (args .symbol .0) (c .before .before .before .before .before .before .before .pre .3))) .1)
+    (loop .inv .3 (args .symbol .0) (rw first (c .before .before .before .before .before .before .before .before .pre .1 .first (args .symbol .0) (c .before .before .before .before .before .before .before .before .pre .3))) .1)
 
 pub mark-rules-spec : {M : Type 1} → statement M
 mark-rules-spec =
@@ -104,4 +108,5 @@ mark-rules-spec =
     place-requires-3
     loop-less
     loop-again
+    same-length
     returns)
