@@ -12,19 +12,19 @@ use Rattle.kind_words.specs.Listed.{Layout}
 use Rattle.kind_words.specs.Kind.{Prepared, LayoutFor, ListsFor}
 use Rattle.kind_lists.specs.Stage.{Stage}
 
-module _ (S I states : ℕ) (counts rows inputMarks table outputMarks nodes rules : List ℕ) (lay : Layout) (offsets reached lengths : List ℕ)
+module _ (S I states : ℕ) (counts rows inputMarks table outputMarks nodes rules : List ℕ) (lay : Layout) (offsets lists : List ℕ)
     (accepted refused : ℕ) where
   pub stage-at : Established (contract S I states counts rows inputMarks table outputMarks nodes rules) → LayoutFor states counts lay
       → ((p : ℕ) → p < length counts → getD offsets p 0 ≡ offset states counts p)
-      → ListsFor counts nodes rules reached lengths
+      → ListsFor counts nodes rules rows lists
       → accepted ≡ word (length inputMarks) (λ q. same (markAt inputMarks q) 1)
       → refused ≡ word (length outputMarks) (λ q. same (markAt outputMarks q) 0)
-      → Stage (contract S I (lay .states) counts rows inputMarks table outputMarks nodes rules) lay offsets reached lengths accepted refused
-  stage-at known layout place lists a r =
-      subst (λ (o : ℕ). Stage (contract S I o counts rows inputMarks table outputMarks nodes rules) lay offsets reached lengths accepted refused)
+      → Stage (contract S I (lay .states) counts rows inputMarks table outputMarks nodes rules) lay offsets lists accepted refused
+  stage-at known layout place filled a r =
+      subst (λ (o : ℕ). Stage (contract S I o counts rows inputMarks table outputMarks nodes rules) lay offsets lists accepted refused)
       (sym (layout .states))
       (record {
-        prepared = record { established = known; layout = layout; place = place; lists = lists };
+        prepared = record { established = known; layout = layout; place = place; lists = filled };
         verdicts =
             record {
               accepts = a ∙ ap (λ (n : ℕ). word n (λ (q : ℕ). same (markAt inputMarks q) 1)) (known .inputMarks);

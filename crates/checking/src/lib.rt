@@ -11,6 +11,7 @@ ghost use Rattle.model.specs.Checking.{limitWrong, check, checking};
 ghost use Rattle.model.proofs.Laws.Established.{Established};
 ghost use Rattle.lanes.specs.Layouts.{layoutOf};
 ghost use Rattle.answers.specs.Numbers.{checkingAnswer};
+ghost use Rattle.kind_words.specs.Kind.{listsLength};
 ghost use Rattle.kind_lists.specs.Listing.{Room};
 ghost use Rattle.kind_lists.specs.Stage.{Stage};
 ghost use Rattle.kind_lists.specs.Steps.{Outcome};
@@ -36,9 +37,10 @@ use lanes::Layout;
 use layouts::layout_of;
 use layouts::offsets_of;
 use masks::all_masks;
-use reaching::no_lengths;
-use reaching::no_lists;
-use reaching::reached_nodes;
+use reaching::few_lists;
+use reaching::fill_lists;
+use reaching::lists_length;
+use reaching::most_lists;
 use tables::Symbol;
 
 fn no_masks() -> [u64; 80]
@@ -104,8 +106,7 @@ fn first_row(
     input_states: usize,
     layout: Layout,
     offsets: &[u16; 16],
-    reached: &[u16; 4096],
-    lengths: &[u16; 16],
+    lists: &[u16],
     counts: &[u16],
     input_rows: &[u16],
     input_marks: &[u16],
@@ -119,14 +120,13 @@ fn first_row(
     rows: &mut [u16],
     words: &mut [u64],
 ) -> Progress
-    requires { ⌜ Stage (contract symbols «input_states» (layout .states) (now counts) (now «input_rows») (now «input_marks») (now «output_table») (now «output_marks») (now nodes) (now rules)) (layoutOf layout) (now offsets) (now reached) (now lengths) (verdicts .accepted) (verdicts .refused) × Room limit 0 (now rows) (now words) × (1 ≤ limit) ⌝ }
+    requires { ⌜ Stage (contract symbols «input_states» (layout .states) (now counts) (now «input_rows») (now «input_marks») (now «output_table») (now «output_marks») (now nodes) (now rules)) (layoutOf layout) (now offsets) (now lists) (verdicts .accepted) (verdicts .refused) × Room limit 0 (now rows) (now words) × (1 ≤ limit) ⌝ }
     ensures { λ r. ⌜ Started (contract symbols «input_states» (layout .states) (now (counts .entry)) (now («input_rows» .entry)) (now («input_marks» .entry)) (now («output_table» .entry)) (now («output_marks» .entry)) (now (nodes .entry)) (now (rules .entry))) limit (now (rows .exit)) (now (words .exit)) r ⌝ }
 {
     let kind = empty_kind(
         layout,
         offsets,
-        reached,
-        lengths,
+        lists,
         counts,
         input_rows,
         output_table,
@@ -154,8 +154,7 @@ fn list_kinds(
     input_states: usize,
     layout: Layout,
     offsets: &[u16; 16],
-    reached: &[u16; 4096],
-    lengths: &[u16; 16],
+    lists: &[u16],
     counts: &[u16],
     input_rows: &[u16],
     input_marks: &[u16],
@@ -168,7 +167,7 @@ fn list_kinds(
     rows: &mut [u16],
     words: &mut [u64],
 ) -> Progress
-    requires { ⌜ Stage (contract symbols «input_states» (layout .states) (now counts) (now «input_rows») (now «input_marks») (now «output_table») (now «output_marks») (now nodes) (now rules)) (layoutOf layout) (now offsets) (now reached) (now lengths) (verdicts .accepted) (verdicts .refused) × Room limit 0 (now rows) (now words) × (1 ≤ limit) ⌝ }
+    requires { ⌜ Stage (contract symbols «input_states» (layout .states) (now counts) (now «input_rows») (now «input_marks») (now «output_table») (now «output_marks») (now nodes) (now rules)) (layoutOf layout) (now offsets) (now lists) (verdicts .accepted) (verdicts .refused) × Room limit 0 (now rows) (now words) × (1 ≤ limit) ⌝ }
     ensures { λ r. ⌜ Outcome (contract symbols «input_states» (layout .states) (now (counts .entry)) (now («input_rows» .entry)) (now («input_marks» .entry)) (now («output_table» .entry)) (now («output_marks» .entry)) (now (nodes .entry)) (now (rules .entry))) (λ (n : ℕ). Passed (contract symbols «input_states» (layout .states) (now (counts .entry)) (now («input_rows» .entry)) (now («input_marks» .entry)) (now («output_table» .entry)) (now («output_marks» .entry)) (now (nodes .entry)) (now (rules .entry))) limit n (now (rows .exit)) (now (words .exit))) limit (now (rows .exit)) (now (words .exit)) r ⌝ }
 {
     let mut hints = no_hints();
@@ -177,8 +176,7 @@ fn list_kinds(
         input_states,
         layout,
         offsets,
-        reached,
-        lengths,
+        lists,
         counts,
         input_rows,
         input_marks,
@@ -209,8 +207,7 @@ fn list_kinds(
         nodes,
         rules,
         offsets,
-        reached,
-        lengths,
+        lists,
         &mut left_masks,
         &mut right_masks,
     );
@@ -221,8 +218,7 @@ fn list_kinds(
         input_states,
         layout,
         offsets,
-        reached,
-        lengths,
+        lists,
         counts,
         input_rows,
         input_marks,
@@ -237,6 +233,53 @@ fn list_kinds(
         &mut lefts,
         &mut rights,
         &mut hints,
+        rows,
+        words,
+    )
+}
+
+// Prepares an admitted contract, with room for the table of lists, and lists its kinds.
+fn list_within(
+    symbols: usize,
+    input_states: usize,
+    output_states: usize,
+    counts: &[u16],
+    input_rows: &[u16],
+    input_marks: &[u16],
+    output_table: &[u16],
+    output_marks: &[u16],
+    nodes: &[u16],
+    rules: &[u16],
+    lists: &mut [u16],
+    limit: usize,
+    rows: &mut [u16],
+    words: &mut [u64],
+) -> Progress
+    requires { ⌜ Established (contract symbols «input_states» «output_states» (now counts) (now «input_rows») (now «input_marks») (now «output_table») (now «output_marks») (now nodes) (now rules)) × Room limit 0 (now rows) (now words) × (1 ≤ limit) × (listsLength (now «input_rows») (now nodes) (now rules) ≤ length (now lists)) × (length (now lists) < 65536) ⌝ }
+    ensures { λ r. ⌜ Outcome (contract symbols «input_states» «output_states» (now (counts .entry)) (now («input_rows» .entry)) (now («input_marks» .entry)) (now («output_table» .entry)) (now («output_marks» .entry)) (now (nodes .entry)) (now (rules .entry))) (λ (n : ℕ). Passed (contract symbols «input_states» «output_states» (now (counts .entry)) (now («input_rows» .entry)) (now («input_marks» .entry)) (now («output_table» .entry)) (now («output_marks» .entry)) (now (nodes .entry)) (now (rules .entry))) limit n (now (rows .exit)) (now (words .exit))) limit (now (rows .exit)) (now (words .exit)) r ⌝ }
+{
+    let layout = layout_of(output_states, counts);
+    let offsets = offsets_of(output_states, counts);
+    fill_lists(counts, input_rows, nodes, rules, lists);
+    let verdicts = Verdicts {
+        accepted: states_marked(input_marks, 1),
+        refused: states_marked(output_marks, 0),
+    };
+    list_kinds(
+        symbols,
+        input_states,
+        layout,
+        &offsets,
+        lists,
+        counts,
+        input_rows,
+        input_marks,
+        output_table,
+        output_marks,
+        nodes,
+        rules,
+        verdicts,
+        limit,
         rows,
         words,
     )
@@ -261,22 +304,30 @@ fn list_all(
     requires { ⌜ Established (contract symbols «input_states» «output_states» (now counts) (now «input_rows») (now «input_marks») (now «output_table») (now «output_marks») (now nodes) (now rules)) × Room limit 0 (now rows) (now words) × (1 ≤ limit) ⌝ }
     ensures { λ r. ⌜ Outcome (contract symbols «input_states» «output_states» (now (counts .entry)) (now («input_rows» .entry)) (now («input_marks» .entry)) (now («output_table» .entry)) (now («output_marks» .entry)) (now (nodes .entry)) (now (rules .entry))) (λ (n : ℕ). Passed (contract symbols «input_states» «output_states» (now (counts .entry)) (now («input_rows» .entry)) (now («input_marks» .entry)) (now («output_table» .entry)) (now («output_marks» .entry)) (now (nodes .entry)) (now (rules .entry))) limit n (now (rows .exit)) (now (words .exit))) limit (now (rows .exit)) (now (words .exit)) r ⌝ }
 {
-    let layout = layout_of(output_states, counts);
-    let offsets = offsets_of(output_states, counts);
-    let mut reached = no_lists();
-    let mut lengths = no_lengths();
-    reached_nodes(counts, nodes, rules, &mut reached, &mut lengths);
-    let verdicts = Verdicts {
-        accepted: states_marked(input_marks, 1),
-        refused: states_marked(output_marks, 0),
-    };
-    list_kinds(
+    if lists_length(input_rows, nodes, rules) <= 256 {
+        let mut lists = few_lists();
+        return list_within(
+            symbols,
+            input_states,
+            output_states,
+            counts,
+            input_rows,
+            input_marks,
+            output_table,
+            output_marks,
+            nodes,
+            rules,
+            &mut lists,
+            limit,
+            rows,
+            words,
+        );
+    }
+    let mut lists = most_lists();
+    list_within(
         symbols,
         input_states,
-        layout,
-        &offsets,
-        &reached,
-        &lengths,
+        output_states,
         counts,
         input_rows,
         input_marks,
@@ -284,7 +335,7 @@ fn list_all(
         output_marks,
         nodes,
         rules,
-        verdicts,
+        &mut lists,
         limit,
         rows,
         words,

@@ -118,28 +118,28 @@ module _ (C : Contract) where
   unfolding kindOf
   kind-node s l r left right k el er ek = ek ∙ rw (el, er, kind-taken l, kind-taken r)
 
-module _ (lay : Layout) (offsets reached lengths counts rows table nodes rules : List ℕ) where
+module _ (lay : Layout) (offsets lists counts rows table nodes rules : List ℕ) where
   -- the kind of a tree, for every contract that the tables are prepared for
   abbrev pub IsKindOf : Tree → List ℕ → Type 0
   IsKindOf t kind =
       (S I : ℕ) (inputMarks outputMarks : List ℕ)
-      → Prepared (contract S I (lay .states) counts rows inputMarks table outputMarks nodes rules) lay offsets reached lengths
+      → Prepared (contract S I (lay .states) counts rows inputMarks table outputMarks nodes rules) lay offsets lists
       → kind ≡ kindOf (contract S I (lay .states) counts rows inputMarks table outputMarks nodes rules) t ++ (0 ∷ [])
 
   -- the kinds of the places from n on are kept
   pub record StoredFrom (n : ℕ) (numbers kinds : List ℕ) : Type 0 where
-    pub long : length kinds ≡ 6138
+    pub long : 6 * length numbers ≤ length kinds
     pub kept : (j : ℕ) → n ≤ j → j < length numbers → IsKindOf (treeFrom numbers j) (kindAt kinds j)
 
-  pub stored-none : (numbers kinds : List ℕ) → length kinds ≡ 6138 → StoredFrom (length numbers) numbers kinds
+  pub stored-none : (numbers kinds : List ℕ) → 6 * length numbers ≤ length kinds → StoredFrom (length numbers) numbers kinds
   stored-none numbers kinds long = record { long = long; kept = λ j l h. absurd (omega arith) }
 
   -- one place more; the kind has six words, as some contract shows
-  pub stored-more : (i : ℕ) (numbers kinds kinds′ k : List ℕ) → StoredFrom (suc i) numbers kinds → i < 1023 → length k ≡ 6 → IsKindOf (treeFrom numbers i) k
+  pub stored-more : (i : ℕ) (numbers kinds kinds′ k : List ℕ) → StoredFrom (suc i) numbers kinds → i < length numbers → length k ≡ 6 → IsKindOf (treeFrom numbers i) k
       → kinds′ ≡ putKind kinds i k
       → StoredFrom i numbers kinds′
   stored-more i numbers kinds kinds′ k h small long is e =
-      rw e (record { long = put-length kinds i k 6 ∙ h .long; kept = λ j l m. go j l m (ℕ-discrete j i) })
+      rw e (record { long = rw (put-length kinds i k 6) (h .long); kept = λ j l m. go j l m (ℕ-discrete j i) })
     where
       go : (j : ℕ) → i ≤ j → j < length numbers → Dec (j ≡ i) → IsKindOf (treeFrom numbers j) (kindAt (putKind kinds i k) j)
       go j l m (yes q) = rw q (rw (at-same kinds i k long (omega (arith, h .long))) is)

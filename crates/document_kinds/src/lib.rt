@@ -17,16 +17,23 @@ use reading::right_child;
 use reading::tree_ends;
 use tables::Symbol;
 
-// Room for a kind at each place.
-fn no_kinds() -> [u64; 6138]
+// Room for a kind at each place of a document of at most sixteen numbers.
+fn few_kinds() -> [u64; 96]
+    ensures { λ r. ⌜ r ≡ replicate 96 0 ⌝ }
+{
+    [0u64; 96]
+}
+
+// Room for a kind at each place of every document.
+fn most_kinds() -> [u64; 6138]
     ensures { λ r. ⌜ r ≡ replicate 6138 0 ⌝ }
 {
     [0u64; 6138]
 }
 
 // The kind that is kept for a place.
-fn kind_at(kinds: &[u64; 6138], place: usize) -> [u64; 6]
-    requires { ⌜ place < mostNumbers ⌝ }
+fn kind_at(kinds: &[u64], place: usize) -> [u64; 6]
+    requires { ⌜ 6 * place + 6 ≤ length (now kinds) ⌝ }
     ensures { λ r. ⌜ r ≡ kindAt (now (kinds .entry)) place ⌝ }
 {
     let at = 6 * place;
@@ -41,8 +48,8 @@ fn kind_at(kinds: &[u64; 6138], place: usize) -> [u64; 6]
 }
 
 // Keeps the kind of a place.
-fn put_kind(kinds: &mut [u64; 6138], place: usize, kind: &[u64; 6])
-    requires { ⌜ place < mostNumbers ⌝ }
+fn put_kind(kinds: &mut [u64], place: usize, kind: &[u64; 6])
+    requires { ⌜ 6 * place + 6 ≤ length (now kinds) ⌝ }
     ensures { λ _. ⌜ now (kinds .exit) ≡ putKind (now (kinds .entry)) place (now (kind .entry)) ⌝ }
 {
     let at = 6 * place;
@@ -58,8 +65,7 @@ fn put_kind(kinds: &mut [u64; 6138], place: usize, kind: &[u64; 6])
 fn kind_of_place(
     layout: Layout,
     offsets: &[u16; 16],
-    reached: &[u16; 4096],
-    lengths: &[u16; 16],
+    lists: &[u16],
     counts: &[u16],
     rows: &[u16],
     table: &[u16],
@@ -67,12 +73,12 @@ fn kind_of_place(
     rules: &[u16],
     numbers: &[u16],
     ends: &[u16; 1023],
-    kinds: &[u64; 6138],
+    kinds: &[u64],
     empty: [u64; 6],
     i: usize,
 ) -> [u64; 6]
-    requires { ⌜ Ready (layoutOf layout) (now offsets) (now reached) (now lengths) (now counts) (now rows) (now table) (now nodes) (now rules) × Readable (now numbers) × (length (now numbers) ≤ mostNumbers) × Symbols (now numbers) × (i < length (now numbers)) × EndsFrom 0 (now numbers) (now ends) × IsEmptyKind (layoutOf layout) (now offsets) (now reached) (now lengths) (now counts) (now rows) (now table) (now nodes) (now rules) empty × StoredFrom (layoutOf layout) (now offsets) (now reached) (now lengths) (now counts) (now rows) (now table) (now nodes) (now rules) (i + 1) (now numbers) (now kinds) ⌝ }
-    ensures { λ r. ⌜ IsKindOf (layoutOf layout) (now (offsets .entry)) (now (reached .entry)) (now (lengths .entry)) (now (counts .entry)) (now (rows .entry)) (now (table .entry)) (now (nodes .entry)) (now (rules .entry)) (treeFrom (now (numbers .entry)) i) r ⌝ }
+    requires { ⌜ Ready (layoutOf layout) (now offsets) (now lists) (now counts) (now rows) (now table) (now nodes) (now rules) × Readable (now numbers) × (length (now numbers) ≤ mostNumbers) × Symbols (now numbers) × (i < length (now numbers)) × EndsFrom 0 (now numbers) (now ends) × IsEmptyKind (layoutOf layout) (now offsets) (now lists) (now counts) (now rows) (now table) (now nodes) (now rules) empty × StoredFrom (layoutOf layout) (now offsets) (now lists) (now counts) (now rows) (now table) (now nodes) (now rules) (i + 1) (now numbers) (now kinds) ⌝ }
+    ensures { λ r. ⌜ IsKindOf (layoutOf layout) (now (offsets .entry)) (now (lists .entry)) (now (counts .entry)) (now (rows .entry)) (now (table .entry)) (now (nodes .entry)) (now (rules .entry)) (treeFrom (now (numbers .entry)) i) r ⌝ }
 {
     let symbol = Symbol(numbers[i]);
     if symbol.0 == 0 {
@@ -83,8 +89,7 @@ fn kind_of_place(
     next_kind(
         layout,
         offsets,
-        reached,
-        lengths,
+        lists,
         counts,
         rows,
         table,
@@ -96,43 +101,31 @@ fn kind_of_place(
     )
 }
 
-// The kind of a document's tree.
-pub fn document_kind(
+// The kind of a document's tree, with room for the kinds of its places.
+fn kind_within(
     layout: Layout,
     offsets: &[u16; 16],
-    reached: &[u16; 4096],
-    lengths: &[u16; 16],
+    lists: &[u16],
     counts: &[u16],
     rows: &[u16],
     table: &[u16],
     nodes: &[u16],
     rules: &[u16],
     numbers: &[u16],
+    kinds: &mut [u64],
 ) -> [u64; 6]
-    requires { ⌜ Ready (layoutOf layout) (now offsets) (now reached) (now lengths) (now counts) (now rows) (now table) (now nodes) (now rules) × Readable (now numbers) × (1 ≤ length (now numbers)) × (length (now numbers) ≤ mostNumbers) × Symbols (now numbers) ⌝ }
-    ensures { λ r. ⌜ IsKindOf (layoutOf layout) (now (offsets .entry)) (now (reached .entry)) (now (lengths .entry)) (now (counts .entry)) (now (rows .entry)) (now (table .entry)) (now (nodes .entry)) (now (rules .entry)) (treeFrom (now (numbers .entry)) 0) r ⌝ }
+    requires { ⌜ Ready (layoutOf layout) (now offsets) (now lists) (now counts) (now rows) (now table) (now nodes) (now rules) × Readable (now numbers) × (1 ≤ length (now numbers)) × (length (now numbers) ≤ mostNumbers) × Symbols (now numbers) × (6 * length (now numbers) ≤ length (now kinds)) ⌝ }
+    ensures { λ r. ⌜ IsKindOf (layoutOf layout) (now (offsets .entry)) (now (lists .entry)) (now (counts .entry)) (now (rows .entry)) (now (table .entry)) (now (nodes .entry)) (now (rules .entry)) (treeFrom (now (numbers .entry)) 0) r ⌝ }
 {
     let ends = tree_ends(numbers);
-    let empty = empty_kind(
-        layout,
-        offsets,
-        reached,
-        lengths,
-        counts,
-        rows,
-        table,
-        nodes,
-        rules,
-    );
-    let mut kinds = no_kinds();
+    let empty = empty_kind(layout, offsets, lists, counts, rows, table, nodes, rules);
     let mut i = numbers.len();
     while 0 < i {
         i -= 1;
         let kind = kind_of_place(
             layout,
             offsets,
-            reached,
-            lengths,
+            lists,
             counts,
             rows,
             table,
@@ -140,11 +133,56 @@ pub fn document_kind(
             rules,
             numbers,
             &ends,
-            &kinds,
+            kinds,
             empty,
             i,
         );
-        put_kind(&mut kinds, i, &kind);
+        put_kind(kinds, i, &kind);
     }
-    kind_at(&kinds, 0)
+    kind_at(kinds, 0)
+}
+
+// The kind of a document's tree.
+pub fn document_kind(
+    layout: Layout,
+    offsets: &[u16; 16],
+    lists: &[u16],
+    counts: &[u16],
+    rows: &[u16],
+    table: &[u16],
+    nodes: &[u16],
+    rules: &[u16],
+    numbers: &[u16],
+) -> [u64; 6]
+    requires { ⌜ Ready (layoutOf layout) (now offsets) (now lists) (now counts) (now rows) (now table) (now nodes) (now rules) × Readable (now numbers) × (1 ≤ length (now numbers)) × (length (now numbers) ≤ mostNumbers) × Symbols (now numbers) ⌝ }
+    ensures { λ r. ⌜ IsKindOf (layoutOf layout) (now (offsets .entry)) (now (lists .entry)) (now (counts .entry)) (now (rows .entry)) (now (table .entry)) (now (nodes .entry)) (now (rules .entry)) (treeFrom (now (numbers .entry)) 0) r ⌝ }
+{
+    if numbers.len() <= 16 {
+        let mut kinds = few_kinds();
+        return kind_within(
+            layout,
+            offsets,
+            lists,
+            counts,
+            rows,
+            table,
+            nodes,
+            rules,
+            numbers,
+            &mut kinds,
+        );
+    }
+    let mut kinds = most_kinds();
+    kind_within(
+        layout,
+        offsets,
+        lists,
+        counts,
+        rows,
+        table,
+        nodes,
+        rules,
+        numbers,
+        &mut kinds,
+    )
 }

@@ -107,15 +107,15 @@ module _ (C : Contract) (numbers buffer : List ℕ) where
   unfolding judging judgingVerdict given _then_ refuseIf
   judged-document e l d kind k = record { answers = rw (e, eq-eqb (length buffer) 5 l, ← d, k); closes = rw (e, eq-eqb (length buffer) 5 l, ← d) k }
 
-module _ (S I states : ℕ) (counts rows inputMarks table outputMarks nodes rules : List ℕ) (lay : Layout) (offsets reached lengths : List ℕ) where
+module _ (S I states : ℕ) (counts rows inputMarks table outputMarks nodes rules : List ℕ) (lay : Layout) (offsets lists : List ℕ) where
   -- what preparation makes of an admitted contract
   pub prepared-at : Established (contract S I states counts rows inputMarks table outputMarks nodes rules) → LayoutFor states counts lay
       → ((p : ℕ) → p < length counts → getD offsets p 0 ≡ offset states counts p)
-      → ListsFor counts nodes rules reached lengths
-      → Prepared (contract S I (lay .states) counts rows inputMarks table outputMarks nodes rules) lay offsets reached lengths
-  prepared-at known layout place lists =
-      subst (λ (o : ℕ). Prepared (contract S I o counts rows inputMarks table outputMarks nodes rules) lay offsets reached lengths) (sym (layout .states))
-      (record { established = known; layout = layout; place = place; lists = lists })
+      → ListsFor counts nodes rules rows lists
+      → Prepared (contract S I (lay .states) counts rows inputMarks table outputMarks nodes rules) lay offsets lists
+  prepared-at known layout place filled =
+      subst (λ (o : ℕ). Prepared (contract S I o counts rows inputMarks table outputMarks nodes rules) lay offsets lists) (sym (layout .states))
+      (record { established = known; layout = layout; place = place; lists = filled })
 
 -- a kind of the contract with the same states
 pub kind-at-states : (S I states o : ℕ) (counts rows inputMarks table outputMarks nodes rules : List ℕ) (t : Tree) (kind : List ℕ) → o ≡ states

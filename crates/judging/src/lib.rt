@@ -3,12 +3,13 @@
 ghost use mathlib.Core.Path.{_≡_};
 ghost use mathlib.Core.List.{List};
 ghost use Prim.Native.Nat.{ℕ, _<_, _≤_};
-ghost use lib.ListN.{length, getD, take};
+ghost use lib.ListN.{length, take};
 ghost use Rattle.model.specs.Tables.{contract};
 ghost use Rattle.model.specs.Documents.{mostNumbers};
 ghost use Rattle.model.specs.Judging.{judging};
 ghost use Rattle.model.proofs.Laws.Documents.{Readable};
 ghost use Rattle.answers.specs.Numbers.{judgingAnswer};
+ghost use Rattle.kind_words.specs.Kind.{listsLength};
 ghost use Rattle.document_kinds.specs.Stored.{Symbols};
 ghost use Rattle.judging.specs.Steps.{Known, IsTreeKind, IsJudgement, Comes};
 use admission::admit;
@@ -22,11 +23,42 @@ use document_kinds::document_kind;
 use lanes::Layout;
 use layouts::layout_of;
 use layouts::offsets_of;
-use reaching::no_lengths;
-use reaching::no_lists;
-use reaching::reached_nodes;
+use reaching::few_lists;
+use reaching::fill_lists;
+use reaching::lists_length;
+use reaching::most_lists;
 use reading::DocumentAnswer;
 use reading::document;
+
+// The kind of a document's tree, with room for the table of lists.
+fn kind_with(
+    states: usize,
+    counts: &[u16],
+    rows: &[u16],
+    table: &[u16],
+    nodes: &[u16],
+    rules: &[u16],
+    numbers: &[u16],
+    lists: &mut [u16],
+) -> [u64; 6]
+    requires { ⌜ Known states (now counts) (now rows) (now table) (now nodes) (now rules) × Readable (now numbers) × (1 ≤ length (now numbers)) × (length (now numbers) ≤ mostNumbers) × Symbols (now numbers) × (listsLength (now rows) (now nodes) (now rules) ≤ length (now lists)) × (length (now lists) < 65536) ⌝ }
+    ensures { λ r. ⌜ IsTreeKind states (now (counts .entry)) (now (rows .entry)) (now (table .entry)) (now (nodes .entry)) (now (rules .entry)) (now (numbers .entry)) r ⌝ }
+{
+    let layout = layout_of(states, counts);
+    let offsets = offsets_of(states, counts);
+    fill_lists(counts, rows, nodes, rules, lists);
+    document_kind(
+        layout,
+        &offsets,
+        lists,
+        counts,
+        rows,
+        table,
+        nodes,
+        rules,
+        numbers,
+    )
+}
 
 // The kind of a document's tree, with all that is prepared for its contract.
 fn tree_kind(
@@ -41,22 +73,29 @@ fn tree_kind(
     requires { ⌜ Known states (now counts) (now rows) (now table) (now nodes) (now rules) × Readable (now numbers) × (1 ≤ length (now numbers)) × (length (now numbers) ≤ mostNumbers) × Symbols (now numbers) ⌝ }
     ensures { λ r. ⌜ IsTreeKind states (now (counts .entry)) (now (rows .entry)) (now (table .entry)) (now (nodes .entry)) (now (rules .entry)) (now (numbers .entry)) r ⌝ }
 {
-    let layout = layout_of(states, counts);
-    let offsets = offsets_of(states, counts);
-    let mut reached = no_lists();
-    let mut lengths = no_lengths();
-    reached_nodes(counts, nodes, rules, &mut reached, &mut lengths);
-    document_kind(
-        layout,
-        &offsets,
-        &reached,
-        &lengths,
+    if lists_length(rows, nodes, rules) <= 256 {
+        let mut lists = few_lists();
+        return kind_with(
+            states,
+            counts,
+            rows,
+            table,
+            nodes,
+            rules,
+            numbers,
+            &mut lists,
+        );
+    }
+    let mut lists = most_lists();
+    kind_with(
+        states,
         counts,
         rows,
         table,
         nodes,
         rules,
         numbers,
+        &mut lists,
     )
 }
 

@@ -53,7 +53,7 @@ module _ {C : Contract} {limit before stood : ℕ} {lefts rights : List ℕ} {s 
       let longer = at-stood in
       (omega (arith, room .used, room .wordRoom), omega (arith, room .used, room .few))
 
-  pub visit-pair : {lay : Layout} {offsets reached lengths : List ℕ} {accepted refused : ℕ} → Stage C lay offsets reached lengths accepted refused
+  pub visit-pair : {lay : Layout} {offsets lists : List ℕ} {accepted refused : ℕ} → Stage C lay offsets lists accepted refused
       → s < C .transformation .symbols → i < stood → j < stood
       → (leftKind rightKind kind : List ℕ) → leftKind ≡ paddedKind words i → rightKind ≡ paddedKind words j
       → kind ≡ nextKind C s (take 5 leftKind) (take 5 rightKind) ++ (0 ∷ [])

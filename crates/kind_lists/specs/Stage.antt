@@ -6,6 +6,6 @@ use Rattle.kind_words.specs.Listed.{Layout}
 use Rattle.kind_words.specs.Kind.{Prepared}
 use Rattle.kind_lists.specs.Verdicts.{VerdictsFor}
 
-pub record Stage (C : Contract) (lay : Layout) (offsets reached lengths : List ℕ) (accepted refused : ℕ) : Type 0 where
-  pub prepared : Prepared C lay offsets reached lengths
+pub record Stage (C : Contract) (lay : Layout) (offsets lists : List ℕ) (accepted refused : ℕ) : Type 0 where
+  pub prepared : Prepared C lay offsets lists
   pub verdicts : VerdictsFor C accepted refused

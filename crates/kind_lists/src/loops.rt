@@ -79,8 +79,7 @@ pub fn visit_pair(
     input_states: usize,
     layout: Layout,
     offsets: &[u16; 16],
-    reached: &[u16; 4096],
-    lengths: &[u16; 16],
+    lists: &[u16],
     counts: &[u16],
     input_rows: &[u16],
     input_marks: &[u16],
@@ -102,7 +101,7 @@ pub fn visit_pair(
     rows: &mut [u16],
     words: &mut [u64],
 ) -> Progress
-    requires { ⌜ Stage (contract symbols «input_states» (layout .states) (now counts) (now «input_rows») (now «input_marks») (now «output_table») (now «output_marks») (now nodes) (now rules)) (layoutOf layout) (now offsets) (now reached) (now lengths) (verdicts .accepted) (verdicts .refused) × At (contract symbols «input_states» (layout .states) (now counts) (now «input_rows») (now «input_marks») (now «output_table») (now «output_marks») (now nodes) (now rules)) limit before stood (now lefts) (now rights) (symbol .0) left right count (now rows) (now words) × (symbol .0 < symbols) × (left < stood) × (right < stood) ⌝ }
+    requires { ⌜ Stage (contract symbols «input_states» (layout .states) (now counts) (now «input_rows») (now «input_marks») (now «output_table») (now «output_marks») (now nodes) (now rules)) (layoutOf layout) (now offsets) (now lists) (verdicts .accepted) (verdicts .refused) × At (contract symbols «input_states» (layout .states) (now counts) (now «input_rows») (now «input_marks») (now «output_table») (now «output_marks») (now nodes) (now rules)) limit before stood (now lefts) (now rights) (symbol .0) left right count (now rows) (now words) × (symbol .0 < symbols) × (left < stood) × (right < stood) ⌝ }
     ensures { λ r. ⌜ Outcome (contract symbols «input_states» (layout .states) (now (counts .entry)) (now («input_rows» .entry)) (now («input_marks» .entry)) (now («output_table» .entry)) (now («output_marks» .entry)) (now (nodes .entry)) (now (rules .entry))) (λ (n : ℕ). At (contract symbols «input_states» (layout .states) (now (counts .entry)) (now («input_rows» .entry)) (now («input_marks» .entry)) (now («output_table» .entry)) (now («output_marks» .entry)) (now (nodes .entry)) (now (rules .entry))) limit before stood (now (lefts .entry)) (now (rights .entry)) (symbol .0) left (right + 1) n (now (rows .exit)) (now (words .exit))) limit (now (rows .exit)) (now (words .exit)) r ⌝ }
 {
     let left_kind = kind_at(words, left);
@@ -110,8 +109,7 @@ pub fn visit_pair(
     let kind = next_kind(
         layout,
         offsets,
-        reached,
-        lengths,
+        lists,
         counts,
         input_rows,
         output_table,
@@ -142,8 +140,7 @@ pub fn right_row(
     input_states: usize,
     layout: Layout,
     offsets: &[u16; 16],
-    reached: &[u16; 4096],
-    lengths: &[u16; 16],
+    lists: &[u16],
     counts: &[u16],
     input_rows: &[u16],
     input_marks: &[u16],
@@ -165,7 +162,7 @@ pub fn right_row(
     rows: &mut [u16],
     words: &mut [u64],
 ) -> Progress
-    requires { ⌜ Stage (contract symbols «input_states» (layout .states) (now counts) (now «input_rows») (now «input_marks») (now «output_table») (now «output_marks») (now nodes) (now rules)) (layoutOf layout) (now offsets) (now reached) (now lengths) (verdicts .accepted) (verdicts .refused) × At (contract symbols «input_states» (layout .states) (now counts) (now «input_rows») (now «input_marks») (now «output_table») (now «output_marks») (now nodes) (now rules)) limit before stood (now lefts) (now rights) (symbol .0) left right count (now rows) (now words) × (symbol .0 < symbols) × (left < stood) × (right < stood) ⌝ }
+    requires { ⌜ Stage (contract symbols «input_states» (layout .states) (now counts) (now «input_rows») (now «input_marks») (now «output_table») (now «output_marks») (now nodes) (now rules)) (layoutOf layout) (now offsets) (now lists) (verdicts .accepted) (verdicts .refused) × At (contract symbols «input_states» (layout .states) (now counts) (now «input_rows») (now «input_marks») (now «output_table») (now «output_marks») (now nodes) (now rules)) limit before stood (now lefts) (now rights) (symbol .0) left right count (now rows) (now words) × (symbol .0 < symbols) × (left < stood) × (right < stood) ⌝ }
     ensures { λ r. ⌜ Outcome (contract symbols «input_states» (layout .states) (now (counts .entry)) (now («input_rows» .entry)) (now («input_marks» .entry)) (now («output_table» .entry)) (now («output_marks» .entry)) (now (nodes .entry)) (now (rules .entry))) (λ (n : ℕ). At (contract symbols «input_states» (layout .states) (now (counts .entry)) (now («input_rows» .entry)) (now («input_marks» .entry)) (now («output_table» .entry)) (now («output_marks» .entry)) (now (nodes .entry)) (now (rules .entry))) limit before stood (now (lefts .entry)) (now (rights .entry)) (symbol .0) left (right + 1) n (now (rows .exit)) (now (words .exit))) limit (now (rows .exit)) (now (words .exit)) r ⌝ }
 {
     if marked(rights, right, symbol) {
@@ -174,8 +171,7 @@ pub fn right_row(
             input_states,
             layout,
             offsets,
-            reached,
-            lengths,
+            lists,
             counts,
             input_rows,
             input_marks,
@@ -207,8 +203,7 @@ pub fn right_rows(
     input_states: usize,
     layout: Layout,
     offsets: &[u16; 16],
-    reached: &[u16; 4096],
-    lengths: &[u16; 16],
+    lists: &[u16],
     counts: &[u16],
     input_rows: &[u16],
     input_marks: &[u16],
@@ -230,7 +225,7 @@ pub fn right_rows(
     rows: &mut [u16],
     words: &mut [u64],
 ) -> Progress
-    requires { ⌜ Stage (contract symbols «input_states» (layout .states) (now counts) (now «input_rows») (now «input_marks») (now «output_table») (now «output_marks») (now nodes) (now rules)) (layoutOf layout) (now offsets) (now reached) (now lengths) (verdicts .accepted) (verdicts .refused) × At (contract symbols «input_states» (layout .states) (now counts) (now «input_rows») (now «input_marks») (now «output_table») (now «output_marks») (now nodes) (now rules)) limit before stood (now lefts) (now rights) (symbol .0) left from count (now rows) (now words) × (symbol .0 < symbols) × (left < stood) × (from ≤ stood) ⌝ }
+    requires { ⌜ Stage (contract symbols «input_states» (layout .states) (now counts) (now «input_rows») (now «input_marks») (now «output_table») (now «output_marks») (now nodes) (now rules)) (layoutOf layout) (now offsets) (now lists) (verdicts .accepted) (verdicts .refused) × At (contract symbols «input_states» (layout .states) (now counts) (now «input_rows») (now «input_marks») (now «output_table») (now «output_marks») (now nodes) (now rules)) limit before stood (now lefts) (now rights) (symbol .0) left from count (now rows) (now words) × (symbol .0 < symbols) × (left < stood) × (from ≤ stood) ⌝ }
     ensures { λ r. ⌜ Outcome (contract symbols «input_states» (layout .states) (now (counts .entry)) (now («input_rows» .entry)) (now («input_marks» .entry)) (now («output_table» .entry)) (now («output_marks» .entry)) (now (nodes .entry)) (now (rules .entry))) (λ (n : ℕ). At (contract symbols «input_states» (layout .states) (now (counts .entry)) (now («input_rows» .entry)) (now («input_marks» .entry)) (now («output_table» .entry)) (now («output_marks» .entry)) (now (nodes .entry)) (now (rules .entry))) limit before stood (now (lefts .entry)) (now (rights .entry)) (symbol .0) left stood n (now (rows .exit)) (now (words .exit))) limit (now (rows .exit)) (now (words .exit)) r ⌝ }
 {
     let mut total: usize = count;
@@ -241,8 +236,7 @@ pub fn right_rows(
             input_states,
             layout,
             offsets,
-            reached,
-            lengths,
+            lists,
             counts,
             input_rows,
             input_marks,
@@ -279,8 +273,7 @@ pub fn left_row(
     input_states: usize,
     layout: Layout,
     offsets: &[u16; 16],
-    reached: &[u16; 4096],
-    lengths: &[u16; 16],
+    lists: &[u16],
     counts: &[u16],
     input_rows: &[u16],
     input_marks: &[u16],
@@ -301,7 +294,7 @@ pub fn left_row(
     rows: &mut [u16],
     words: &mut [u64],
 ) -> Progress
-    requires { ⌜ Stage (contract symbols «input_states» (layout .states) (now counts) (now «input_rows») (now «input_marks») (now «output_table») (now «output_marks») (now nodes) (now rules)) (layoutOf layout) (now offsets) (now reached) (now lengths) (verdicts .accepted) (verdicts .refused) × At (contract symbols «input_states» (layout .states) (now counts) (now «input_rows») (now «input_marks») (now «output_table») (now «output_marks») (now nodes) (now rules)) limit before stood (now lefts) (now rights) (symbol .0) left 0 count (now rows) (now words) × (symbol .0 < symbols) × (left < stood) ⌝ }
+    requires { ⌜ Stage (contract symbols «input_states» (layout .states) (now counts) (now «input_rows») (now «input_marks») (now «output_table») (now «output_marks») (now nodes) (now rules)) (layoutOf layout) (now offsets) (now lists) (verdicts .accepted) (verdicts .refused) × At (contract symbols «input_states» (layout .states) (now counts) (now «input_rows») (now «input_marks») (now «output_table») (now «output_marks») (now nodes) (now rules)) limit before stood (now lefts) (now rights) (symbol .0) left 0 count (now rows) (now words) × (symbol .0 < symbols) × (left < stood) ⌝ }
     ensures { λ r. ⌜ Outcome (contract symbols «input_states» (layout .states) (now (counts .entry)) (now («input_rows» .entry)) (now («input_marks» .entry)) (now («output_table» .entry)) (now («output_marks» .entry)) (now (nodes .entry)) (now (rules .entry))) (λ (n : ℕ). At (contract symbols «input_states» (layout .states) (now (counts .entry)) (now («input_rows» .entry)) (now («input_marks» .entry)) (now («output_table» .entry)) (now («output_marks» .entry)) (now (nodes .entry)) (now (rules .entry))) limit before stood (now (lefts .entry)) (now (rights .entry)) (symbol .0) (left + 1) 0 n (now (rows .exit)) (now (words .exit))) limit (now (rows .exit)) (now (words .exit)) r ⌝ }
 {
     if marked(lefts, left, symbol) {
@@ -311,8 +304,7 @@ pub fn left_row(
             input_states,
             layout,
             offsets,
-            reached,
-            lengths,
+            lists,
             counts,
             input_rows,
             input_marks,
@@ -344,8 +336,7 @@ pub fn left_rows(
     input_states: usize,
     layout: Layout,
     offsets: &[u16; 16],
-    reached: &[u16; 4096],
-    lengths: &[u16; 16],
+    lists: &[u16],
     counts: &[u16],
     input_rows: &[u16],
     input_marks: &[u16],
@@ -365,7 +356,7 @@ pub fn left_rows(
     rows: &mut [u16],
     words: &mut [u64],
 ) -> Progress
-    requires { ⌜ Stage (contract symbols «input_states» (layout .states) (now counts) (now «input_rows») (now «input_marks») (now «output_table») (now «output_marks») (now nodes) (now rules)) (layoutOf layout) (now offsets) (now reached) (now lengths) (verdicts .accepted) (verdicts .refused) × At (contract symbols «input_states» (layout .states) (now counts) (now «input_rows») (now «input_marks») (now «output_table») (now «output_marks») (now nodes) (now rules)) limit before stood (now lefts) (now rights) (symbol .0) 0 0 count (now rows) (now words) × (symbol .0 < symbols) ⌝ }
+    requires { ⌜ Stage (contract symbols «input_states» (layout .states) (now counts) (now «input_rows») (now «input_marks») (now «output_table») (now «output_marks») (now nodes) (now rules)) (layoutOf layout) (now offsets) (now lists) (verdicts .accepted) (verdicts .refused) × At (contract symbols «input_states» (layout .states) (now counts) (now «input_rows») (now «input_marks») (now «output_table») (now «output_marks») (now nodes) (now rules)) limit before stood (now lefts) (now rights) (symbol .0) 0 0 count (now rows) (now words) × (symbol .0 < symbols) ⌝ }
     ensures { λ r. ⌜ Outcome (contract symbols «input_states» (layout .states) (now (counts .entry)) (now («input_rows» .entry)) (now («input_marks» .entry)) (now («output_table» .entry)) (now («output_marks» .entry)) (now (nodes .entry)) (now (rules .entry))) (λ (n : ℕ). At (contract symbols «input_states» (layout .states) (now (counts .entry)) (now («input_rows» .entry)) (now («input_marks» .entry)) (now («output_table» .entry)) (now («output_marks» .entry)) (now (nodes .entry)) (now (rules .entry))) limit before stood (now (lefts .entry)) (now (rights .entry)) (symbol .0 + 1) 0 0 n (now (rows .exit)) (now (words .exit))) limit (now (rows .exit)) (now (words .exit)) r ⌝ }
 {
     let mut total: usize = count;
@@ -376,8 +367,7 @@ pub fn left_rows(
             input_states,
             layout,
             offsets,
-            reached,
-            lengths,
+            lists,
             counts,
             input_rows,
             input_marks,
@@ -421,8 +411,7 @@ pub fn one_round(
     input_states: usize,
     layout: Layout,
     offsets: &[u16; 16],
-    reached: &[u16; 4096],
-    lengths: &[u16; 16],
+    lists: &[u16],
     counts: &[u16],
     input_rows: &[u16],
     input_marks: &[u16],
@@ -440,7 +429,7 @@ pub fn one_round(
     rows: &mut [u16],
     words: &mut [u64],
 ) -> Progress
-    requires { ⌜ Stage (contract symbols «input_states» (layout .states) (now counts) (now «input_rows») (now «input_marks») (now «output_table») (now «output_marks») (now nodes) (now rules)) (layoutOf layout) (now offsets) (now reached) (now lengths) (verdicts .accepted) (verdicts .refused) × At (contract symbols «input_states» (layout .states) (now counts) (now «input_rows») (now «input_marks») (now «output_table») (now «output_marks») (now nodes) (now rules)) limit before stood (now lefts) (now rights) 1 0 0 stood (now rows) (now words) ⌝ }
+    requires { ⌜ Stage (contract symbols «input_states» (layout .states) (now counts) (now «input_rows») (now «input_marks») (now «output_table») (now «output_marks») (now nodes) (now rules)) (layoutOf layout) (now offsets) (now lists) (verdicts .accepted) (verdicts .refused) × At (contract symbols «input_states» (layout .states) (now counts) (now «input_rows») (now «input_marks») (now «output_table») (now «output_marks») (now nodes) (now rules)) limit before stood (now lefts) (now rights) 1 0 0 stood (now rows) (now words) ⌝ }
     ensures { λ r. ⌜ Outcome (contract symbols «input_states» (layout .states) (now (counts .entry)) (now («input_rows» .entry)) (now («input_marks» .entry)) (now («output_table» .entry)) (now («output_marks» .entry)) (now (nodes .entry)) (now (rules .entry))) (λ (n : ℕ). At (contract symbols «input_states» (layout .states) (now (counts .entry)) (now («input_rows» .entry)) (now («input_marks» .entry)) (now («output_table» .entry)) (now («output_marks» .entry)) (now (nodes .entry)) (now (rules .entry))) limit before stood (now (lefts .entry)) (now (rights .entry)) symbols 0 0 n (now (rows .exit)) (now (words .exit))) limit (now (rows .exit)) (now (words .exit)) r ⌝ }
 {
     let mut total: usize = stood;
@@ -451,8 +440,7 @@ pub fn one_round(
             input_states,
             layout,
             offsets,
-            reached,
-            lengths,
+            lists,
             counts,
             input_rows,
             input_marks,
@@ -487,8 +475,7 @@ pub fn all_rounds(
     input_states: usize,
     layout: Layout,
     offsets: &[u16; 16],
-    reached: &[u16; 4096],
-    lengths: &[u16; 16],
+    lists: &[u16],
     counts: &[u16],
     input_rows: &[u16],
     input_marks: &[u16],
@@ -506,7 +493,7 @@ pub fn all_rounds(
     rows: &mut [u16],
     words: &mut [u64],
 ) -> Progress
-    requires { ⌜ Stage (contract symbols «input_states» (layout .states) (now counts) (now «input_rows») (now «input_marks») (now «output_table») (now «output_marks») (now nodes) (now rules)) (layoutOf layout) (now offsets) (now reached) (now lengths) (verdicts .accepted) (verdicts .refused) × Covered (contract symbols «input_states» (layout .states) (now counts) (now «input_rows») (now «input_marks») (now «output_table») (now «output_marks») (now nodes) (now rules)) (now «left_masks») (now «right_masks») × (length (now lefts) ≡ 512) × (length (now rights) ≡ 512) × Between (contract symbols «input_states» (layout .states) (now counts) (now «input_rows») (now «input_marks») (now «output_table») (now «output_marks») (now nodes) (now rules)) limit 0 1 (now lefts) (now rights) (now rows) (now words) ⌝ }
+    requires { ⌜ Stage (contract symbols «input_states» (layout .states) (now counts) (now «input_rows») (now «input_marks») (now «output_table») (now «output_marks») (now nodes) (now rules)) (layoutOf layout) (now offsets) (now lists) (verdicts .accepted) (verdicts .refused) × Covered (contract symbols «input_states» (layout .states) (now counts) (now «input_rows») (now «input_marks») (now «output_table») (now «output_marks») (now nodes) (now rules)) (now «left_masks») (now «right_masks») × (length (now lefts) ≡ 512) × (length (now rights) ≡ 512) × Between (contract symbols «input_states» (layout .states) (now counts) (now «input_rows») (now «input_marks») (now «output_table») (now «output_marks») (now nodes) (now rules)) limit 0 1 (now lefts) (now rights) (now rows) (now words) ⌝ }
     ensures { λ r. ⌜ Outcome (contract symbols «input_states» (layout .states) (now (counts .entry)) (now («input_rows» .entry)) (now («input_marks» .entry)) (now («output_table» .entry)) (now («output_marks» .entry)) (now (nodes .entry)) (now (rules .entry))) (λ (n : ℕ). Passed (contract symbols «input_states» (layout .states) (now (counts .entry)) (now («input_rows» .entry)) (now («input_marks» .entry)) (now («output_table» .entry)) (now («output_marks» .entry)) (now (nodes .entry)) (now (rules .entry))) limit n (now (rows .exit)) (now (words .exit))) limit (now (rows .exit)) (now (words .exit)) r ⌝ }
 {
     let mut before: usize = 0;
@@ -519,8 +506,7 @@ pub fn all_rounds(
             input_states,
             layout,
             offsets,
-            reached,
-            lengths,
+            lists,
             counts,
             input_rows,
             input_marks,

@@ -10,7 +10,7 @@ use Rattle.model.specs.Admission.{tableLength}
 use Rattle.model.proofs.Laws.Established.{Established, GoodNode, good-parameter, good-nothing, good-symbol, good-call}
 use Rattle.kind_words.specs.Lanes.{Laid}
 use Rattle.kind_words.specs.Listed.{Layout}
-use Rattle.kind_words.specs.Kind.{Prepared, listed, lanes-fit, offset-inside}
+use Rattle.kind_words.specs.Kind.{Prepared, lanes-fit, offset-inside}
 
 -- words of lanes over at most four states
 pub record LayoutFits (lay : Layout) : Type 0 where
@@ -45,25 +45,19 @@ pub record NodesFit (lay : Layout) (offsets counts table nodes : List ℕ) : Typ
   pub fewNodes : nodeCount nodes ≤ 256
   pub node : (n : ℕ) → n < nodeCount nodes → GoodNode symbols counts n (nodeAt nodes n)
 
--- the rules
-pub record RulesFit (lay : Layout) (offsets counts rules : List ℕ) : Type 0 where
+-- the rules, where there are words for so many nodes
+pub record RulesFit (lay : Layout) (offsets counts rules : List ℕ) (room : ℕ) : Type 0 where
   pub layout : LayoutFits lay
   pub procedures : length counts ≤ 16
   pub procedure : (p : ℕ) → p < length counts → ProcedureFits lay (countOf counts p) (getD offsets p 0)
   pub isProcedure : (r : ℕ) → r < ruleCount rules → ruleAt rules r .procedure < length counts
-  pub isNode : (r : ℕ) → r < ruleCount rules → ruleAt rules r .node < 256
+  pub isNode : (r : ℕ) → r < ruleCount rules → ruleAt rules r .node < room
 
 -- the input rows
 pub record RowsFit (rows : List ℕ) : Type 0 where
   pub state : (r : ℕ) → r < inputRowCount rows → inputRow rows r .state < 32
   pub left : (r : ℕ) → r < inputRowCount rows → inputRow rows r .left < 32
   pub right : (r : ℕ) → r < inputRowCount rows → inputRow rows r .right < 32
-
--- the list of symbol s
-pub record ListFits (reached lengths nodes : List ℕ) (s : ℕ) : Type 0 where
-  pub symbol : s < 16
-  pub few : getD lengths s 0 ≤ 256
-  pub isNode : (i : ℕ) → i < getD lengths s 0 → listed reached s i < nodeCount nodes
 
 module _ {lay : Layout} {offsets counts table nodes : List ℕ} (fit : NodesFit lay offsets counts table nodes) (n : ℕ) (h : n < nodeCount nodes) where
   abbrev node : Node
@@ -100,13 +94,13 @@ module _ {lay : Layout} {offsets counts table nodes : List ℕ} (fit : NodesFit 
           omega (arith, fit .tableLong)
       room (good-call t a b c d) l = absurd (omega arith)
 
-  pub output-nodes : node .tag ≡ 1 → 1 ≤ node .name → (node .first < 256) × (node .second < 256)
+  pub output-nodes : node .tag ≡ 1 → 1 ≤ node .name → (node .first < nodeCount nodes) × (node .second < nodeCount nodes)
   output-nodes e l = go (fit .node n h)
     where
-      go : GoodNode (fit .symbols) counts n node → (node .first < 256) × (node .second < 256)
+      go : GoodNode (fit .symbols) counts n node → (node .first < nodeCount nodes) × (node .second < nodeCount nodes)
       go (good-parameter t a b) = absurd (omega arith)
       go (good-nothing t z) = absurd (omega arith)
-      go (good-symbol t a b c d) = (omega (arith, fit .fewNodes), omega (arith, fit .fewNodes))
+      go (good-symbol t a b c d) = (omega arith, omega arith)
       go (good-call t a b c d) = absurd (omega arith)
 
   pub called-procedure : node .tag ≡ 2 → node .name < length counts
@@ -118,25 +112,25 @@ module _ {lay : Layout} {offsets counts table nodes : List ℕ} (fit : NodesFit 
       go (good-symbol t a b c d) = absurd (omega arith)
       go (good-call t a b c d) = a
 
-  pub call-nodes : node .tag ≡ 2 → (1 ≤ countOf counts (node .name) → node .first < 256) × (2 ≤ countOf counts (node .name) → node .second < 256)
+  pub call-nodes : node .tag ≡ 2 → (1 ≤ countOf counts (node .name) → node .first < nodeCount nodes) × (2 ≤ countOf counts (node .name) → node .second < nodeCount nodes)
   call-nodes e = go (fit .node n h)
     where
-      go : GoodNode (fit .symbols) counts n node → (1 ≤ countOf counts (node .name) → node .first < 256) × (2 ≤ countOf counts (node .name) → node .second < 256)
+      go : GoodNode (fit .symbols) counts n node → (1 ≤ countOf counts (node .name) → node .first < nodeCount nodes) × (2 ≤ countOf counts (node .name) → node .second < nodeCount nodes)
       go (good-parameter t a b) = absurd (omega arith)
       go (good-nothing t z) = absurd (omega arith)
       go (good-symbol t a b c d) = absurd (omega arith)
-      go (good-call t a b c d) = (λ l. omega (arith, fit .fewNodes, c l), λ l. omega (arith, fit .fewNodes, d l))
+      go (good-call t a b c d) = (λ l. omega (arith, c l), λ l. omega (arith, d l))
 
 -- a contract that these tables are prepared for: its sizes and marks stand in no promise on kinds
-pub record Ready (lay : Layout) (offsets reached lengths counts rows table nodes rules : List ℕ) : Type 0 where
+pub record Ready (lay : Layout) (offsets lists counts rows table nodes rules : List ℕ) : Type 0 where
   pub symbols : ℕ
   pub inputStates : ℕ
   pub inputMarks : List ℕ
   pub outputMarks : List ℕ
-  pub prepared : Prepared (contract symbols inputStates (lay .states) counts rows inputMarks table outputMarks nodes rules) lay offsets reached lengths
+  pub prepared : Prepared (contract symbols inputStates (lay .states) counts rows inputMarks table outputMarks nodes rules) lay offsets lists
 
-module _ {lay : Layout} {offsets reached lengths counts rows table nodes rules : List ℕ}
-    (ready : Ready lay offsets reached lengths counts rows table nodes rules) where
+module _ {lay : Layout} {offsets lists counts rows table nodes rules : List ℕ}
+    (ready : Ready lay offsets lists counts rows table nodes rules) where
   abbrev C : Contract
   C = contract (ready .symbols) (ready .inputStates) (lay .states) counts rows (ready .inputMarks) table (ready .outputMarks) nodes rules
 
@@ -185,14 +179,14 @@ module _ {lay : Layout} {offsets reached lengths counts rows table nodes rules :
         node = known .node;
       }
 
-  pub rules-fit : RulesFit lay offsets counts rules
-  rules-fit =
+  pub rules-fit : (room : ℕ) → nodeCount nodes ≤ room → RulesFit lay offsets counts rules room
+  rules-fit room most =
       record {
         layout = layout-fits;
         procedures = known .procedures .≤most;
         procedure = procedure-fits;
         isProcedure = λ r h. known .rule r h .procedure;
-        isNode = λ r h. omega (arith, known .rule r h .node, known .nodes .few);
+        isNode = λ r h. omega (arith, known .rule r h .node);
       }
 
   pub rows-fit : RowsFit rows
@@ -202,6 +196,3 @@ module _ {lay : Layout} {offsets reached lengths counts rows table nodes rules :
         left = λ r h. omega (arith, known .inputRow r h .left, known .inputStates .≤most);
         right = λ r h. omega (arith, known .inputRow r h .right, known .inputStates .≤most);
       }
-
-  pub list-fits : (s : ℕ) → s < 16 → ListFits reached lengths nodes s
-  list-fits s h = record { symbol = h; few = ready .prepared .lists .few s h; isNode = ready .prepared .lists .list s h .isNode }

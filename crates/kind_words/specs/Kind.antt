@@ -13,7 +13,7 @@ use lib.Bits.{bitOr, or-zero-r}
 use Rattle.foundation.specs.Words.{bit, word, word-cong}
 use Rattle.foundation.specs.TestLaws.{same-yes, same-no}
 use Rattle.foundation.specs.Bits.{word-unique, zero-bits, orTo}
-use Rattle.model.specs.Tables.{Contract, inputRow, inputRowCount, ruleAt, ruleCount, countOf}
+use Rattle.model.specs.Tables.{Contract, inputRow, inputRowCount, nodeCount, ruleAt, ruleCount, countOf}
 use Rattle.model.specs.Expressions.{Child}
 use Rattle.model.specs.Outputs.{rightSide}
 use Rattle.model.specs.Facts.{onSide, offset, factsAt}
@@ -25,39 +25,52 @@ use Rattle.kind_words.specs.Blocks.{narrowed-lanes, Holds, block-holds, 
 use Rattle.kind_words.specs.Nodes.{LanesAre, NodeIs}
 use Rattle.kind_words.specs.Called.{OffsetsIn, Narrow}
 use Rattle.kind_words.specs.Listed.{Layout, nodeStep, filledTo, Before, ListOf, StepsFrom, layout, filled-is, done-at}
+use Rattle.kind_words.specs.Chains.{Chained}
 use Rattle.kind_words.specs.Rules.{ruleBlock, withRule, withRules, placed, allFacts, all-facts-bit, block-is}
 use Rattle.kind_words.specs.States.{rowStates, states-are}
 
+-- The table of lists begins with four numbers for each of sixteen symbols: at place s where the list of the nodes that its
+-- rules reach starts, at 16 + s how many they are, at 32 + s its first rule, at 48 + s its first input row. From 64 on it has
+-- after each rule the next one of its symbol, then the same for input rows, then the nodes.
+
+-- how many numbers it takes at most
+abbrev pub listsLength : (rows nodes rules : List ℕ) → ℕ
+listsLength rows nodes rules = 64 + ruleCount rules + inputRowCount rows + 16 * nodeCount nodes
+
+-- how many nodes the list of symbol s has
+abbrev pub listLength : List ℕ → ℕ → ℕ
+listLength lists s = getD lists (16 + s) 0
+
 -- place i of the list of symbol s
 abbrev pub listed : List ℕ → ℕ → ℕ → ℕ
-listed reached s i = getD reached (256 * s + i) 0
+listed lists s i = getD lists (getD lists s 0 + i) 0
 
 -- the words of the nodes that the rules for s reach
-abbrev pub nodeWords : Layout → (offsets reached lengths counts table nodes : List ℕ) (s : ℕ) (leftKind rightKind : List ℕ) → List ℕ
-nodeWords lay offsets reached lengths counts table nodes s leftKind rightKind =
-    filledTo (λ (words : List ℕ) (n : ℕ). nodeStep lay offsets counts table nodes leftKind rightKind words n) (listed reached s) (replicate 256 0)
-    (getD lengths s 0)
+abbrev pub nodeWords : Layout → (offsets lists counts table nodes before : List ℕ) (s : ℕ) (leftKind rightKind : List ℕ) → List ℕ
+nodeWords lay offsets lists counts table nodes before s leftKind rightKind =
+    filledTo (λ (words : List ℕ) (n : ℕ). nodeStep lay offsets counts table nodes leftKind rightKind words n) (listed lists s) before (listLength lists s)
 
 -- the facts of the rules for s
 abbrev pub ruleFacts : Layout → (offsets counts rules : List ℕ) (s : ℕ) (words : List ℕ) → List ℕ
 ruleFacts lay offsets counts rules s words = withRules lay offsets counts rules s words (replicate 6 0) (ruleCount rules)
 
--- the kind of symbol s over two kinds, as the code computes it
-unfoldable pub kindForm : Layout → (offsets reached lengths counts rows table nodes rules : List ℕ) (s : ℕ) (leftKind rightKind : List ℕ) → List ℕ
-kindForm lay offsets reached lengths counts rows table nodes rules s leftKind rightKind =
-    set (ruleFacts lay offsets counts rules s (nodeWords lay offsets reached lengths counts table nodes s leftKind rightKind)) 0
+-- the kind of symbol s over two kinds, as the code computes it; `before` is what the words of the nodes were before
+unfoldable pub kindForm : Layout → (offsets lists counts rows table nodes rules before : List ℕ) (s : ℕ) (leftKind rightKind : List ℕ) → List ℕ
+kindForm lay offsets lists counts rows table nodes rules before s leftKind rightKind =
+    set (ruleFacts lay offsets counts rules s (nodeWords lay offsets lists counts table nodes before s leftKind rightKind)) 0
     (rowStates rows s (getD leftKind 0 0) (getD rightKind 0 0) (inputRowCount rows))
 
 -- .. step by step
-pub kind-steps : (lay : Layout) (offsets reached lengths counts rows table nodes rules : List ℕ) (s : ℕ) (leftKind rightKind : List ℕ) (n place states : ℕ) (words kind : List ℕ)
+pub kind-steps : (lay : Layout) (offsets lists counts rows table nodes rules before : List ℕ) (s : ℕ) (leftKind rightKind : List ℕ) (start n place states : ℕ) (words kind : List ℕ)
     → place ≡ s
-    → n ≡ getD lengths place 0
-    → words ≡ filledTo (λ (w : List ℕ) (k : ℕ). nodeStep lay offsets counts table nodes leftKind rightKind w k) (λ (i : ℕ). getD reached (256 * place + i) 0) (replicate 256 0) n
-    → kind ≡ withRules lay offsets counts rules s words (replicate 6 0) (ruleCount rules)
+    → start ≡ getD lists place 0
+    → n ≡ listLength lists place
+    → words ≡ filledTo (λ (w : List ℕ) (k : ℕ). nodeStep lay offsets counts table nodes leftKind rightKind w k) (λ (i : ℕ). getD lists (start + i) 0) before n
+    → kind ≡ ruleFacts lay offsets counts rules s words
     → states ≡ rowStates rows s (getD leftKind 0 0) (getD rightKind 0 0) (inputRowCount rows)
-    → set kind 0 states ≡ kindForm lay offsets reached lengths counts rows table nodes rules s leftKind rightKind
+    → set kind 0 states ≡ kindForm lay offsets lists counts rows table nodes rules before s leftKind rightKind
 unfolding kindForm
-kind-steps lay offsets reached lengths counts rows table nodes rules s leftKind rightKind n place states words kind ep en ew ek es = rw (es, ek, ew, en, ep)
+kind-steps lay offsets lists counts rows table nodes rules before s leftKind rightKind start n place states words kind ep eb en ew ek es = rw (es, ek, ew, en, eb, ep)
 
 -- how the words of a contract with those output states and parameter counts are laid out: a lane has a bit for each
 -- assignment of the greatest count of parameters
@@ -69,19 +82,31 @@ pub record LayoutFor (O : ℕ) (counts : List ℕ) (lay : Layout) : Type 0 where
   pub width : lay .width ≡ O ^ greatest
   pub lanes : LanesAre O greatest (lay .ones) (lay .starts) (lay .first) (lay .second)
 
--- for each symbol a list of nodes: those that its rules reach, each after what it refers to
-pub record ListsFor (counts nodes rules reached lengths : List ℕ) : Type 0 where
-  pub few : (s : ℕ) → s < 16 → getD lengths s 0 ≤ 256
-  pub list : (s : ℕ) → s < 16 → ListOf counts nodes (listed reached s) (getD lengths s 0)
+-- the rules of each symbol in a chain
+abbrev pub RulesChained : (rules lists : List ℕ) → Type 0
+RulesChained rules lists = Chained (λ r. ruleAt rules r .symbol) (ruleCount rules) 32 64 0 lists
+
+-- the input rows of each symbol in a chain
+abbrev pub RowsChained : (rows lists : List ℕ) (nexts : ℕ) → Type 0
+RowsChained rows lists nexts = Chained (λ r. inputRow rows r .symbol) (inputRowCount rows) 48 nexts 0 lists
+
+-- for each symbol a list of nodes: those that its rules reach, each after what it refers to; and its rules and its input rows
+-- in chains
+pub record ListsFor (counts nodes rules rows lists : List ℕ) : Type 0 where
+  pub long : 64 + ruleCount rules + inputRowCount rows ≤ length lists
+  pub inside : (s : ℕ) → s < 16 → getD lists s 0 + listLength lists s ≤ length lists
+  pub list : (s : ℕ) → s < 16 → ListOf counts nodes (listed lists s) (listLength lists s)
   pub onList : (r : ℕ) → r < ruleCount rules
-      → Before (listed reached (ruleAt rules r .symbol)) (getD lengths (ruleAt rules r .symbol) 0) (ruleAt rules r .node)
+      → Before (listed lists (ruleAt rules r .symbol)) (listLength lists (ruleAt rules r .symbol)) (ruleAt rules r .node)
+  pub ofRules : RulesChained rules lists
+  pub ofRows : RowsChained rows lists (64 + ruleCount rules)
 
 -- what preparation makes of an admitted contract
-pub record Prepared (C : Contract) (lay : Layout) (offsets reached lengths : List ℕ) : Type 0 where
+pub record Prepared (C : Contract) (lay : Layout) (offsets listing : List ℕ) : Type 0 where
   pub established : Established C
   pub layout : LayoutFor (C .output .states) (C .transformation .counts) lay
   pub place : OffsetsIn C offsets
-  pub lists : ListsFor (C .transformation .counts) (C .transformation .nodes) (C .transformation .rules) reached lengths
+  pub lists : ListsFor (C .transformation .counts) (C .transformation .nodes) (C .transformation .rules) (C .input .rows) listing
 
 -- at most four states and two parameters fill a word
 pub lanes-fit : (O k : ℕ) → 1 ≤ O → O ≤ 4 → k ≤ 2 → O * O ^ k ≤ 64
@@ -167,7 +192,7 @@ offset-inside C known p h =
     one-le-pow (suc (countOf (C .transformation .counts) p)) (C .output .states) (known .outputStates .least≤) in
     omega (arith, offset-next (C .output .states) (C .transformation .counts) p h, known .facts)
 
-module _ (C : Contract) (lay : Layout) (offsets reached lengths : List ℕ) (prepared : Prepared C lay offsets reached lengths) where
+module _ (C : Contract) (lay : Layout) (offsets lists : List ℕ) (prepared : Prepared C lay offsets lists) where
   abbrev K : ℕ
   K = prepared .layout .greatest
 
@@ -188,7 +213,8 @@ module _ (C : Contract) (lay : Layout) (offsets reached lengths : List ℕ) (pre
         fit = λ p. lanes-fit O′ (countOf (C .transformation .counts) p) (known .outputStates .least≤) (known .outputStates .≤most) (known .count p);
       }
 
-  module _ (s : ℕ) (hs : s < 16) (l r : List ℕ) (leftWords : Words l) (rightWords : Words r) where
+  module _ (before : List ℕ) (long : nodeCount (C .transformation .nodes) ≤ length before) (s : ℕ) (hs : s < 16) (l r : List ℕ) (leftWords : Words l)
+      (rightWords : Words r) where
     abbrev facts′ : Child → ℕ → ℕ → List ℕ → Bool
     facts′ = onSide (factsIn C l) (factsIn C r)
 
@@ -217,7 +243,7 @@ module _ (C : Contract) (lay : Layout) (offsets reached lengths : List ℕ) (pre
         }
 
     abbrev words′ : List ℕ
-    words′ = nodeWords lay′ offsets reached lengths (C .transformation .counts) (C .output .table) (C .transformation .nodes) s l r
+    words′ = nodeWords lay′ offsets lists (C .transformation .counts) (C .output .table) (C .transformation .nodes) before s l r
 
     abbrev block′ : ℕ → ℕ
     block′ i = ruleBlock lay′ (C .transformation .counts) (C .transformation .rules) words′ i
@@ -226,13 +252,13 @@ module _ (C : Contract) (lay : Layout) (offsets reached lengths : List ℕ) (pre
     node-is : (i : ℕ) → i < ruleCount (C .transformation .rules) → ruleAt (C .transformation .rules) i .symbol ≡ s
         → NodeIs (C .transformation) (C .output) facts′ K (ruleAt (C .transformation .rules) i .node) (getD words′ (ruleAt (C .transformation .rules) i .node) 0)
     node-is i hi e =
-        done-at C K l r offsets (lay .ones) (lay .starts) (lay .first) (lay .second) from (listed reached s) words′ (getD lengths s 0) _
-        (filled-is C K l r offsets (lay .ones) (lay .starts) (lay .first) (lay .second) from (listed reached s) (replicate 256 0) (getD lengths s 0)
+        done-at C K l r offsets (lay .ones) (lay .starts) (lay .first) (lay .second) from (listed lists s) words′ (listLength lists s) _
+        (filled-is C K l r offsets (lay .ones) (lay .starts) (lay .first) (lay .second) from (listed lists s) before (listLength lists s)
         (prepared .lists .list s hs)
-        (omega (arith, length-replicate {A = ℕ} 256 0, known .nodes .few))
-        (getD lengths s 0)
+        long
+        (listLength lists s)
         (omega arith))
-        (subst (λ (x : ℕ). Before (listed reached x) (getD lengths x 0) (ruleAt (C .transformation .rules) i .node)) e (prepared .lists .onList i hi))
+        (subst (λ (x : ℕ). Before (listed lists x) (listLength lists x) (ruleAt (C .transformation .rules) i .node)) e (prepared .lists .onList i hi))
 
     uses-few : (i : ℕ) → i < ruleCount (C .transformation .rules)
         → Rattle.model.specs.Expressions.greatestParameter (rightSide (C .transformation) i) ≤ countOf (C .transformation .counts) (ruleAt (C .transformation .rules) i .procedure)
@@ -292,7 +318,7 @@ module _ (C : Contract) (lay : Layout) (offsets reached lengths : List ℕ) (pre
         ∙ numbered-none O′ (C .transformation .counts) _ (256 + i) (omega (arith, known .facts)))
 
     -- the table form is the model's kind, and a 0
-    pub kind-form-is : kindForm lay offsets reached lengths (C .transformation .counts) (C .input .rows) (C .output .table) (C .transformation .nodes) (C .transformation .rules) s l r
+    pub kind-form-is : kindForm lay offsets lists (C .transformation .counts) (C .input .rows) (C .output .table) (C .transformation .nodes) (C .transformation .rules) before s l r
         ≡ nextKind C s l r ++ (0 ∷ [])
     unfolding kindForm nextKind kindWords
     kind-form-is =

@@ -4,6 +4,7 @@ pub mod Blocks
 pub mod Nodes
 pub mod Called
 pub mod Listed
+pub mod Chains
 pub mod Rules
 pub mod States
 pub mod Kind

@@ -26,6 +26,7 @@ use Rattle.kind_words.specs.Lanes.{Lanes}
 use Rattle.kind_words.specs.Blocks.{narrowed, withBlock}
 use Rattle.kind_words.specs.Nodes.{NodeIs, nodeFact}
 use Rattle.kind_words.specs.Listed.{Layout}
+use Rattle.kind_words.specs.Chains.{NextFrom, unchanged}
 
 -- the block of rule r, from the words of the nodes
 unfoldable pub ruleBlock : Layout → (counts rules words : List ℕ) → ℕ → ℕ
@@ -67,6 +68,26 @@ module _ (lay : Layout) (offsets counts rules : List ℕ) (s : ℕ) (words kind 
       → next ≡ withRules lay offsets counts rules s words kind (r + 1)
   unfolding withRules
   rules-more current next r e f = rw add-one (rw (← e) f)
+
+-- the rules of symbol s in a chain: those between a rule and the next one change nothing
+module _ (lay : Layout) (offsets counts rules : List ℕ) (s : ℕ) (words kind : List ℕ) where
+  abbrev ChainNext : ℕ → ℕ → Type 0
+  ChainNext r k = NextFrom (λ i. ruleAt rules i .symbol) (ruleCount rules) s r k
+
+  rules-passed : (r k : ℕ) → ChainNext r k → withRules lay offsets counts rules s words kind r ≡ withRules lay offsets counts rules s words kind k
+  unfolding withRules
+  rules-passed r k is =
+      unchanged (withRules lay offsets counts rules s words kind) r k (is .after)
+      (λ j a b. rule-skipped lay offsets counts rules s words (withRules lay offsets counts rules s words kind j) j (is .none j a b))
+
+  pub rules-first : (k : ℕ) → ChainNext 0 k → kind ≡ withRules lay offsets counts rules s words kind k
+  rules-first k is = rules-none lay offsets counts rules s words kind ∙ rules-passed 0 k is
+
+  pub rules-next : (current next : List ℕ) (r k : ℕ) → current ≡ withRules lay offsets counts rules s words kind r
+      → next ≡ withRule lay offsets counts rules s words current r
+      → ChainNext (r + 1) k
+      → next ≡ withRules lay offsets counts rules s words kind k
+  rules-next current next r k e f is = rules-more lay offsets counts rules s words kind current next r e f ∙ rules-passed (r + 1) k is
 
 -- an expression asks only for the states of the parameters that it uses
 module _ (T : Transformation) (Y : OutputType) (facts : Child → FactSet) (k : ℕ) (qs qs′ : List ℕ) (h : k ≤ length qs) (h′ : k ≤ length qs′)

@@ -2,12 +2,12 @@
 use mathlib.Core.Path.{_≡_, refl, ap, ap₂, sym, _∙_}
 use mathlib.Core.List.{List}
 use mathlib.Core.Bool.{Bool, true, false, cond}
-use Prim.Native.Nat.{ℕ, _*_, _/_, _^_, _<_}
+use Prim.Native.Nat.{ℕ, _+_, _*_, _/_, _^_, _<_}
 use native.Mathlib.Nat.{add-zero}
 use native.Mathlib.Decide.{ℕ-discrete}
 use borrow.Author.Tests.{eq-eqb, ne-eqb}
 use lib.Dec.{eqb}
-use lib.Bits.{bitAnd}
+use lib.Bits.{bitAnd, bitOr}
 use lib.ListN.{getD}
 use lib.Pow.{pow-pos}
 use Rattle.foundation.specs.Words.{bit, word}
@@ -17,6 +17,7 @@ use Rattle.foundation.specs.Bits.{word-unique, bit-and, bit-shr, bit-zero, orTo
 use Rattle.model.specs.Tables.{Contract, inputRow, inputRowCount}
 use Rattle.model.specs.Kinds.{reachedNext, stateIn}
 use Rattle.kind_words.specs.Blocks.{one-at}
+use Rattle.kind_words.specs.Chains.{NextFrom, or-first, or-next}
 
 -- an input row's word: its state's bit, if it is a row of symbol s and its child states are in a and b
 unfoldable pub rowState : (rows : List ℕ) (s a b : ℕ) → ℕ → ℕ
@@ -40,6 +41,18 @@ row-skipped rows s a b r ne = rw (ne-eqb (inputRow rows r .symbol) s ne)
 -- the states of the first n rows
 abbrev pub rowStates : (rows : List ℕ) (s a b : ℕ) → ℕ → ℕ
 rowStates rows s a b n = orTo (rowState rows s a b) n
+
+-- the rows of symbol s in a chain
+module _ (rows : List ℕ) (s a b : ℕ) where
+  abbrev ChainNext : ℕ → ℕ → Type 0
+  ChainNext r k = NextFrom (λ i. inputRow rows i .symbol) (inputRowCount rows) s r k
+
+  pub states-first : (k : ℕ) → ChainNext 0 k → 0 ≡ rowStates rows s a b k
+  states-first k is = or-first _ _ s (rowState rows s a b) (row-skipped rows s a b) k is
+
+  pub states-next : (current one r k : ℕ) → current ≡ rowStates rows s a b r → one ≡ rowState rows s a b r → ChainNext (r + 1) k
+      → bitOr current one ≡ rowStates rows s a b k
+  states-next current one r k e f is = or-next _ _ s (rowState rows s a b) (row-skipped rows s a b) current one r k e f is
 
 turned : (x y t : Bool) → ((x and y) and t) ≡ (t and (true and (x and y)))
 unfolding _and_

@@ -9,16 +9,16 @@ use Rattle.model.specs.Kinds.{nextKind, emptyKind}
 use Rattle.kind_words.specs.Listed.{Layout}
 use Rattle.kind_words.specs.Kind.{Prepared}
 
-module _ (lay : Layout) (offsets reached lengths counts inputRows outputTable nodes rules : List ℕ) where
+module _ (lay : Layout) (offsets lists counts inputRows outputTable nodes rules : List ℕ) where
   -- the kind of symbol s over the kinds of which left and right are the first five words
   abbrev pub IsNextKind : (s : ℕ) (left right kind : List ℕ) → Type 0
   IsNextKind s left right kind =
       (S I : ℕ) (inputMarks outputMarks : List ℕ)
-      → Prepared (contract S I (lay .states) counts inputRows inputMarks outputTable outputMarks nodes rules) lay offsets reached lengths
+      → Prepared (contract S I (lay .states) counts inputRows inputMarks outputTable outputMarks nodes rules) lay offsets lists
       → kind ≡ nextKind (contract S I (lay .states) counts inputRows inputMarks outputTable outputMarks nodes rules) s (take 5 left) (take 5 right) ++ (0 ∷ [])
 
   abbrev pub IsEmptyKind : (kind : List ℕ) → Type 0
   IsEmptyKind kind =
       (S I : ℕ) (inputMarks outputMarks : List ℕ)
-      → Prepared (contract S I (lay .states) counts inputRows inputMarks outputTable outputMarks nodes rules) lay offsets reached lengths
+      → Prepared (contract S I (lay .states) counts inputRows inputMarks outputTable outputMarks nodes rules) lay offsets lists
       → kind ≡ emptyKind (contract S I (lay .states) counts inputRows inputMarks outputTable outputMarks nodes rules) ++ (0 ∷ [])

@@ -24,7 +24,7 @@ use Rattle.model.proofs.Laws.Facts.{offset-next}
 use Rattle.kind_words.specs.Blocks.{withBlock, Holds, block-holds, nothing-holds}
 use Rattle.kind_words.specs.Listed.{Before, ListOf}
 use Rattle.kind_words.specs.Called.{OffsetsIn}
-use Rattle.kind_words.specs.Kind.{ListsFor, listed, lanes-fit}
+use Rattle.kind_words.specs.Kind.{ListsFor, listed, listLength, lanes-fit}
 use Rattle.classes.specs.Agreement.{EachCall, EachCallOfAll}
 use Rattle.classes.specs.Masks.{ShowsFacts}
 use Rattle.kind_lists.specs.Marks.{maskIn}
@@ -209,18 +209,18 @@ module _ (S : ℕ) (counts nodes : List ℕ) (good : (n : ℕ) → n < nodeCount
 unfoldable pub joined : ℕ → List ℕ → List ℕ
 joined states facts = states ∷ getD facts 1 0 ∷ getD facts 2 0 ∷ getD facts 3 0 ∷ getD facts 4 0 ∷ 0 ∷ []
 
-pub joined-sees : (C : Contract) → Established C → (reached lengths : List ℕ)
-    → ListsFor (C .transformation .counts) (C .transformation .nodes) (C .transformation .rules) reached lengths
+pub joined-sees : (C : Contract) → Established C → (lists : List ℕ)
+    → ListsFor (C .transformation .counts) (C .transformation .nodes) (C .transformation .rules) (C .input .rows) lists
     → (s : ℕ) → s < 16 → (onRight : Bool) (facts : List ℕ)
-    → Shown (C .output .states) (C .transformation .counts) (C .transformation .nodes) (listed reached s) onRight (getD lengths s 0) facts
+    → Shown (C .output .states) (C .transformation .counts) (C .transformation .nodes) (listed lists s) onRight (listLength lists s) facts
     → Sees C s onRight (maskIn (joined (statesSeen (C .input .rows) s onRight) facts) 0)
 unfolding joined
-joined-sees C known reached lengths lists s h onRight facts shown =
+joined-sees C known lists prepared s h onRight facts shown =
     record {
       calls = λ r l e.
-          each-listed (C .transformation .symbols) (C .transformation .counts) (C .transformation .nodes) (known .node) (listed reached s) (getD lengths s 0)
-          (lists .list s h) _ calls (ruleAt (C .transformation .rules) r .node)
-          (subst (λ (x : ℕ). Before (listed reached x) (getD lengths x 0) (ruleAt (C .transformation .rules) r .node)) e (lists .onList r l));
+          each-listed (C .transformation .symbols) (C .transformation .counts) (C .transformation .nodes) (known .node) (listed lists s) (listLength lists s)
+          (prepared .list s h) _ calls (ruleAt (C .transformation .rules) r .node)
+          (subst (λ (x : ℕ). Before (listed lists x) (listLength lists x) (ruleAt (C .transformation .rules) r .node)) e (prepared .onList r l));
       states = λ k l e. state-seen (C .input .rows) s onRight k l e;
     }
   where
@@ -265,14 +265,14 @@ joined-sees C known reached lengths lists s h onRight facts shown =
         go (good-symbol e a b x y) = absurd (omega arith)
         go (good-call u p c x y) = rw (eq-eqb _ _ t) (child-on (nodeAt (C .transformation .nodes) n .child) onRight (c .least≤) (c .≤most) e)
 
-    calls : (i : ℕ) → i < getD lengths s 0 → nodeAt (C .transformation .nodes) (listed reached s i) .tag ≡ 2
-        → childOf (nodeAt (C .transformation .nodes) (listed reached s i) .child) ≡ sideOf onRight
+    calls : (i : ℕ) → i < listLength lists s → nodeAt (C .transformation .nodes) (listed lists s i) .tag ≡ 2
+        → childOf (nodeAt (C .transformation .nodes) (listed lists s i) .child) ≡ sideOf onRight
         → ShowsFacts (C .output .states) (C .transformation .counts) (maskIn (joined (statesSeen (C .input .rows) s onRight) facts) 0)
-        (nodeAt (C .transformation .nodes) (listed reached s i) .name)
+        (nodeAt (C .transformation .nodes) (listed lists s i) .name)
     calls i l t e =
-        let n : ℕ = listed reached s i in
-        let p : ℕ = nodeAt (C .transformation .nodes) (listed reached s i) .name in
-        let isNode = lists .list s h .isNode i l in
+        let n : ℕ = listed lists s i in
+        let p : ℕ = nodeAt (C .transformation .nodes) (listed lists s i) .name in
+        let isNode = prepared .list s h .isNode i l in
         let is : p < length (C .transformation .counts) = called-known C known n isNode t in
         record {
           fact = λ k hk.
@@ -282,10 +282,10 @@ joined-sees C known reached lengths lists s h onRight facts shown =
         }
 
 -- what the masks are made from: an admitted contract, its procedures' offsets, and the nodes that each symbol's rules reach
-pub record Placed (C : Contract) (offsets reached lengths : List ℕ) : Type 0 where
+pub record Placed (C : Contract) (offsets listing : List ℕ) : Type 0 where
   pub established : Established C
   pub places : OffsetsIn C offsets
-  pub lists : ListsFor (C .transformation .counts) (C .transformation .nodes) (C .transformation .rules) reached lengths
+  pub lists : ListsFor (C .transformation .counts) (C .transformation .nodes) (C .transformation .rules) (C .input .rows) listing
 
 pub call-fits : (C : Contract) → Established C → (offsets : List ℕ) → OffsetsIn C offsets → (n : ℕ) → n < nodeCount (C .transformation .nodes)
     → CallFits (C .output .states) (C .transformation .counts) offsets (nodeAt (C .transformation .nodes) n)

@@ -7,7 +7,8 @@ use Prim.Native.Nat.{ℕ, zero, suc, _+_, _*_, _^_, _<_, _≤_}
 use native.Mathlib.Nat.{add-zero}
 use native.Mathlib.Omega.{arith}
 use native.Mathlib.Decide.{ℕ-discrete}
-use borrow.Author.Tests.{eq-eqb}
+use borrow.Author.Tests.{eq-eqb, ne-eqb}
+use lib.Bits.{bitOr}
 use lib.Dec.{eqb}
 use lib.ListN.{length, getD, set, length-set}
 use lib.Seq.{getD-set-same, getD-set-other}
@@ -19,6 +20,7 @@ use Rattle.model.specs.Expressions.{Child, left, right, Expression, parameter, 
 use Rattle.model.specs.Outputs.{rightSide}
 use Rattle.model.specs.Facts.{onSide}
 use Rattle.model.proofs.Laws.Established.{Established}
+use Rattle.kind_words.specs.Chains.{NextFrom, or-first, or-next}
 use Rattle.classes.specs.Agreement.{EachCall, EachCallOfAll}
 use Rattle.classes.specs.Masks.{ShowsFacts, Covers}
 use Rattle.kind_lists.specs.Marks.{maskIn, Covered}
@@ -39,6 +41,25 @@ stateBit row s onRight = choose (eqb (row .symbol) s) (1 * 2 ^ stateOn onRight r
 -- the states that the symbol's input rows name on a side
 unfoldable pub statesSeen : List ℕ → ℕ → Bool → ℕ
 statesSeen rows s onRight = orTo (λ k. stateBit (inputRow rows k) s onRight) (inputRowCount rows)
+
+-- the rows of the symbol in a chain
+module _ (rows : List ℕ) (s : ℕ) (onRight : Bool) where
+  abbrev pub seenBelow : ℕ → ℕ
+  seenBelow n = orTo (λ k. stateBit (inputRow rows k) s onRight) n
+
+  abbrev ChainNext : ℕ → ℕ → Type 0
+  ChainNext r k = NextFrom (λ i. inputRow rows i .symbol) (inputRowCount rows) s r k
+
+  bit-skipped : (k : ℕ) → (inputRow rows k .symbol ≡ s → ⊥) → 0 ≡ stateBit (inputRow rows k) s onRight
+  unfolding stateBit
+  bit-skipped k ne = rw (ne-eqb (inputRow rows k .symbol) s ne)
+
+  pub seen-first : (k : ℕ) → ChainNext 0 k → 0 ≡ seenBelow k
+  seen-first k is = or-first _ _ s _ bit-skipped k is
+
+  pub seen-next : (current one r k : ℕ) → current ≡ seenBelow r → one ≡ stateBit (inputRow rows r) s onRight → ChainNext (r + 1) k
+      → bitOr current one ≡ seenBelow k
+  seen-next current one r k e f is = or-next _ _ s _ bit-skipped current one r k e f is
 
 own-bit : (i : ℕ) → bit (1 * 2 ^ i) i ≡ true
 unfolding bit

@@ -1,7 +1,7 @@
 // The masks of what each symbol can see of a child's kind: the states that its input rows name on that side, and the facts of
 // the procedures that its rules call there.
 ghost use mathlib.Core.Path.{_≡_};
-ghost use Prim.Native.Nat.{ℕ, _<_, _≤_};
+ghost use Prim.Native.Nat.{ℕ, _+_, _<_, _≤_};
 ghost use Rattle.foundation.specs.Tests.{choose};
 ghost use lib.ListN.{length, getD, replicate};
 ghost use Rattle.model.specs.Tables.{contract, inputRow, inputRowCount, nodeAt, nodeCount};
@@ -9,10 +9,11 @@ ghost use Rattle.tables.specs.Tuples.{inputRowOf, nodeOf};
 ghost use Rattle.kind_lists.specs.Marks.{maskIn, Covered};
 ghost use Rattle.masks.specs.Seen.{stateOn, stateBit, statesSeen, stored, Sees, AllSee};
 ghost use Rattle.masks.specs.Calls.{onesFor, withCall, CallFits, Shown, Placed, joined};
-ghost use Rattle.kind_words.specs.Kind.{listed};
+ghost use Rattle.kind_words.specs.Kind.{listed, listLength, RowsChained};
 use blocks::assignments;
 use blocks::lane_of_ones;
 use blocks::put_block;
+use chains::rows_from;
 use lanes::place;
 use lanes::up;
 use lanes::wide;
@@ -43,18 +44,18 @@ fn state_bit(row: InputRow, symbol: Symbol, on_right: bool) -> u64
     0
 }
 
-// The states that the symbol's input rows name on a side.
-fn states_seen(rows: &[u16], symbol: Symbol, on_right: bool) -> u64
-    requires { ⌜ ((k : ℕ) → k < inputRowCount (now rows) → stateOn «on_right» (inputRow (now rows) k) < 64) ⌝ }
+// The states that the symbol's input rows name on a side: the rows in the symbol's chain.
+fn states_seen(lists: &[u16], rows: &[u16], nexts: usize, symbol: Symbol, on_right: bool) -> u64
+    requires { ⌜ ((k : ℕ) → k < inputRowCount (now rows) → stateOn «on_right» (inputRow (now rows) k) < 64) × RowsChained (now rows) (now lists) nexts × (64 ≤ nexts) × (nexts + inputRowCount (now rows) ≤ length (now lists)) × (symbol .0 < 16) ⌝ }
     ensures { λ r. ⌜ r ≡ statesSeen (now (rows .entry)) (symbol .0) «on_right» ⌝ }
 {
     let count = rows.len() / 4;
     let mut word: u64 = 0;
-    let mut k: usize = 0;
+    let mut k = place(lists[48 + place(symbol.0)]);
     while k < count {
         let row = input_row_at(rows, k);
         word = word | state_bit(row, symbol, on_right);
-        k += 1;
+        k = place(lists[nexts + k]);
     }
     word
 }
@@ -119,12 +120,12 @@ fn no_facts() -> [u64; 6]
 }
 
 // A node on the list of the nodes that the symbol's rules reach.
-fn listed_node(nodes: &[u16], reached: &[u16; 4096], symbol: Symbol, i: usize) -> Node
-    requires { ⌜ (symbol .0 < 16) × (i < 256) × (listed (now reached) (symbol .0) i < nodeCount (now nodes)) ⌝ }
-    ensures { λ r. ⌜ nodeOf r ≡ nodeAt (now (nodes .entry)) (listed (now (reached .entry)) (symbol .0) i) ⌝ }
+fn listed_node(nodes: &[u16], lists: &[u16], symbol: Symbol, i: usize) -> Node
+    requires { ⌜ (symbol .0 < length (now lists)) × (getD (now lists) (symbol .0) 0 + i < length (now lists)) × (listed (now lists) (symbol .0) i < nodeCount (now nodes)) ⌝ }
+    ensures { λ r. ⌜ nodeOf r ≡ nodeAt (now (nodes .entry)) (listed (now (lists .entry)) (symbol .0) i) ⌝ }
 {
-    let at = 256 * place(symbol.0) + i;
-    let n = place(reached[at]);
+    let start = place(lists[place(symbol.0)]);
+    let n = place(lists[start + i]);
     node_at(nodes, n)
 }
 
@@ -142,20 +143,19 @@ fn facts_seen(
     nodes: &[u16],
     rules: &[u16],
     offsets: &[u16; 16],
-    reached: &[u16; 4096],
-    lengths: &[u16; 16],
+    lists: &[u16],
     symbol: Symbol,
     on_right: bool,
 ) -> [u64; 6]
-    requires { ⌜ Placed (contract symbols «input_states» «output_states» (now counts) (now «input_rows») (now «input_marks») (now «output_table») (now «output_marks») (now nodes) (now rules)) (now offsets) (now reached) (now lengths) × (symbol .0 < 16) ⌝ }
-    ensures { λ r. ⌜ Shown «output_states» (now (counts .entry)) (now (nodes .entry)) (listed (now (reached .entry)) (symbol .0)) «on_right» (getD (now (lengths .entry)) (symbol .0) 0) r ⌝ }
+    requires { ⌜ Placed (contract symbols «input_states» «output_states» (now counts) (now «input_rows») (now «input_marks») (now «output_table») (now «output_marks») (now nodes) (now rules)) (now offsets) (now lists) × (symbol .0 < 16) ⌝ }
+    ensures { λ r. ⌜ Shown «output_states» (now (counts .entry)) (now (nodes .entry)) (listed (now (lists .entry)) (symbol .0)) «on_right» (listLength (now (lists .entry)) (symbol .0)) r ⌝ }
 {
     let s = place(symbol.0);
-    let count = place(lengths[s]);
+    let count = place(lists[16 + s]);
     let mut mask = no_facts();
     let mut i: usize = 0;
     while i < count {
-        let node = listed_node(nodes, reached, symbol, i);
+        let node = listed_node(nodes, lists, symbol, i);
         put_call(output_states, counts, offsets, on_right, node, &mut mask);
         i += 1;
     }
@@ -182,15 +182,15 @@ fn mask_of(
     nodes: &[u16],
     rules: &[u16],
     offsets: &[u16; 16],
-    reached: &[u16; 4096],
-    lengths: &[u16; 16],
+    lists: &[u16],
     symbol: Symbol,
     on_right: bool,
 ) -> [u64; 6]
-    requires { ⌜ Placed (contract symbols «input_states» «output_states» (now counts) (now «input_rows») (now «input_marks») (now «output_table») (now «output_marks») (now nodes) (now rules)) (now offsets) (now reached) (now lengths) × (symbol .0 < 16) ⌝ }
+    requires { ⌜ Placed (contract symbols «input_states» «output_states» (now counts) (now «input_rows») (now «input_marks») (now «output_table») (now «output_marks») (now nodes) (now rules)) (now offsets) (now lists) × (symbol .0 < 16) ⌝ }
     ensures { λ r. ⌜ Sees (contract symbols «input_states» «output_states» (now (counts .entry)) (now («input_rows» .entry)) (now («input_marks» .entry)) (now («output_table» .entry)) (now («output_marks» .entry)) (now (nodes .entry)) (now (rules .entry))) (symbol .0) «on_right» (maskIn r 0) ⌝ }
 {
-    let states = states_seen(input_rows, symbol, on_right);
+    let nexts = rows_from(rules);
+    let states = states_seen(lists, input_rows, nexts, symbol, on_right);
     let facts = facts_seen(
         symbols,
         input_states,
@@ -203,8 +203,7 @@ fn mask_of(
         nodes,
         rules,
         offsets,
-        reached,
-        lengths,
+        lists,
         symbol,
         on_right,
     );
@@ -224,12 +223,11 @@ fn side_masks(
     nodes: &[u16],
     rules: &[u16],
     offsets: &[u16; 16],
-    reached: &[u16; 4096],
-    lengths: &[u16; 16],
+    lists: &[u16],
     on_right: bool,
     masks: &mut [u64; 80],
 )
-    requires { ⌜ Placed (contract symbols «input_states» «output_states» (now counts) (now «input_rows») (now «input_marks») (now «output_table») (now «output_marks») (now nodes) (now rules)) (now offsets) (now reached) (now lengths) × (length (now masks) ≡ 80) ⌝ }
+    requires { ⌜ Placed (contract symbols «input_states» «output_states» (now counts) (now «input_rows») (now «input_marks») (now «output_table») (now «output_marks») (now nodes) (now rules)) (now offsets) (now lists) × (length (now masks) ≡ 80) ⌝ }
     ensures { λ _. ⌜ AllSee (contract symbols «input_states» «output_states» (now (counts .entry)) (now («input_rows» .entry)) (now («input_marks» .entry)) (now («output_table» .entry)) (now («output_marks» .entry)) (now (nodes .entry)) (now (rules .entry))) «on_right» symbols (now (masks .exit)) ⌝ }
 {
     let mut s: u16 = 1;
@@ -246,8 +244,7 @@ fn side_masks(
             nodes,
             rules,
             offsets,
-            reached,
-            lengths,
+            lists,
             Symbol(s),
             on_right,
         );
@@ -269,12 +266,11 @@ pub fn all_masks(
     nodes: &[u16],
     rules: &[u16],
     offsets: &[u16; 16],
-    reached: &[u16; 4096],
-    lengths: &[u16; 16],
+    lists: &[u16],
     left: &mut [u64; 80],
     right: &mut [u64; 80],
 )
-    requires { ⌜ Placed (contract symbols «input_states» «output_states» (now counts) (now «input_rows») (now «input_marks») (now «output_table») (now «output_marks») (now nodes) (now rules)) (now offsets) (now reached) (now lengths) × (length (now left) ≡ 80) × (length (now right) ≡ 80) ⌝ }
+    requires { ⌜ Placed (contract symbols «input_states» «output_states» (now counts) (now «input_rows») (now «input_marks») (now «output_table») (now «output_marks») (now nodes) (now rules)) (now offsets) (now lists) × (length (now left) ≡ 80) × (length (now right) ≡ 80) ⌝ }
     ensures { λ _. ⌜ Covered (contract symbols «input_states» «output_states» (now (counts .entry)) (now («input_rows» .entry)) (now («input_marks» .entry)) (now («output_table» .entry)) (now («output_marks» .entry)) (now (nodes .entry)) (now (rules .entry))) (now (left .exit)) (now (right .exit)) ⌝ }
 {
     side_masks(
@@ -289,8 +285,7 @@ pub fn all_masks(
         nodes,
         rules,
         offsets,
-        reached,
-        lengths,
+        lists,
         false,
         left,
     );
@@ -306,8 +301,7 @@ pub fn all_masks(
         nodes,
         rules,
         offsets,
-        reached,
-        lengths,
+        lists,
         true,
         right,
     );

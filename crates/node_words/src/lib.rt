@@ -5,7 +5,7 @@ ghost use mathlib.Core.Bool.{cond};
 ghost use mathlib.Core.List.{List};
 ghost use Prim.Native.Nat.{ℕ, _+_, _^_, _<_, _≤_};
 ghost use lib.Dec.{eqb};
-ghost use lib.ListN.{getD};
+ghost use lib.ListN.{length, getD};
 ghost use Rattle.model.specs.Tables.{nodeCount};
 ghost use Rattle.kind_words.specs.Blocks.{factsFrom, widened};
 ghost use Rattle.kind_words.specs.Nodes.{outputWord, callWord};
@@ -63,15 +63,8 @@ fn called_word(
 }
 
 // The word of a call of a procedure of that many parameters, from its facts.
-fn call_word(
-    layout: Layout,
-    count: u16,
-    facts: u64,
-    words: &[u64; 256],
-    first: u16,
-    second: u16,
-) -> u64
-    requires { ⌜ LayoutFits (layoutOf layout) × (1 ≤ count → first < 256) × (2 ≤ count → second < 256) ⌝ }
+fn call_word(layout: Layout, count: u16, facts: u64, words: &[u64], first: u16, second: u16) -> u64
+    requires { ⌜ LayoutFits (layoutOf layout) × (1 ≤ count → first < length (now words)) × (2 ≤ count → second < length (now words)) ⌝ }
     ensures { λ r. ⌜ r ≡ callWord (layout .states) (layout .width) (layout .ones) (layout .starts) count facts (getD (now (words .entry)) first 0) (getD (now (words .entry)) second 0) ⌝ }
 {
     if count == 0 {
@@ -104,11 +97,11 @@ fn output_word(
     layout: Layout,
     table: &[u16],
     symbol: Symbol,
-    words: &[u64; 256],
+    words: &[u64],
     first: u16,
     second: u16,
 ) -> u64
-    requires { ⌜ OutputFits (layoutOf layout) (now table) (symbol .0) × (1 ≤ symbol .0 → (first < 256) × (second < 256)) ⌝ }
+    requires { ⌜ OutputFits (layoutOf layout) (now table) (symbol .0) × (1 ≤ symbol .0 → (first < length (now words)) × (second < length (now words))) ⌝ }
     ensures { λ r. ⌜ r ≡ outputWord (layout .states) (layout .width) (layout .ones) (now (table .entry)) (symbol .0) (getD (now (words .entry)) first 0) (getD (now (words .entry)) second 0) ⌝ }
 {
     if symbol.0 == 0 {
@@ -146,10 +139,10 @@ fn node_word(
     nodes: &[u16],
     left: &[u64; 6],
     right: &[u64; 6],
-    words: &[u64; 256],
+    words: &[u64],
     n: usize,
 ) -> u64
-    requires { ⌜ NodesFit (layoutOf layout) (now offsets) (now counts) (now table) (now nodes) × (n < nodeCount (now nodes)) ⌝ }
+    requires { ⌜ NodesFit (layoutOf layout) (now offsets) (now counts) (now table) (now nodes) × (n < nodeCount (now nodes)) × (nodeCount (now nodes) ≤ length (now words)) ⌝ }
     ensures { λ r. ⌜ r ≡ nodeStep (layoutOf layout) (now (offsets .entry)) (now (counts .entry)) (now (table .entry)) (now (nodes .entry)) (now (left .entry)) (now (right .entry)) (now (words .entry)) n ⌝ }
 {
     let node = node_at(nodes, n);
@@ -173,26 +166,26 @@ fn node_word(
     call_word(layout, count, facts, words, node.first, node.second)
 }
 
-// The words of the nodes on a part of the list, one after another.
+// The words of the nodes on a list, one after another.
 pub fn fill_words(
     layout: Layout,
     offsets: &[u16; 16],
-    reached: &[u16; 4096],
+    lists: &[u16],
     counts: &[u16],
     table: &[u16],
     nodes: &[u16],
     start: usize,
-    length: usize,
+    count: usize,
     left: &[u64; 6],
     right: &[u64; 6],
-    words: &mut [u64; 256],
+    words: &mut [u64],
 )
-    requires { ⌜ NodesFit (layoutOf layout) (now offsets) (now counts) (now table) (now nodes) × (start + length ≤ 4096) × ((i : ℕ) → i < length → getD (now reached) (start + i) 0 < nodeCount (now nodes)) ⌝ }
-    ensures { λ _. ⌜ now (words .exit) ≡ filledTo (λ (w : List ℕ) (n : ℕ). nodeStep (layoutOf layout) (now (offsets .entry)) (now (counts .entry)) (now (table .entry)) (now (nodes .entry)) (now (left .entry)) (now (right .entry)) w n) (λ (i : ℕ). getD (now (reached .entry)) (start + i) 0) (now (words .entry)) length ⌝ }
+    requires { ⌜ NodesFit (layoutOf layout) (now offsets) (now counts) (now table) (now nodes) × (start + count ≤ length (now lists)) × ((i : ℕ) → i < count → getD (now lists) (start + i) 0 < nodeCount (now nodes)) × (nodeCount (now nodes) ≤ length (now words)) ⌝ }
+    ensures { λ _. ⌜ now (words .exit) ≡ filledTo (λ (w : List ℕ) (n : ℕ). nodeStep (layoutOf layout) (now (offsets .entry)) (now (counts .entry)) (now (table .entry)) (now (nodes .entry)) (now (left .entry)) (now (right .entry)) w n) (λ (i : ℕ). getD (now (lists .entry)) (start + i) 0) (now (words .entry)) count ⌝ }
 {
     let mut i: usize = 0;
-    while i < length {
-        let n = place(reached[start + i]);
+    while i < count {
+        let n = place(lists[start + i]);
         let word = node_word(layout, offsets, counts, table, nodes, left, right, words, n);
         words[n] = word;
         i += 1;

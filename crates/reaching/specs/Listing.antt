@@ -2,7 +2,7 @@
 use mathlib.Core.Path.{_≡_, refl, ap, subst, sym, _∙_}
 use mathlib.Core.List.{List}
 use mathlib.Core.Bool.{Bool, true, false}
-use Prim.Native.Nat.{ℕ, _+_, _*_, _<_, _≤_}
+use Prim.Native.Nat.{ℕ, suc, _+_, _*_, _-_, _<_, _≤_}
 use native.Mathlib.Omega.{arith}
 use native.Mathlib.Decide.{ℕ-discrete}
 use borrow.Author.Tests.{eq-eqb, ne-eqb}
@@ -10,9 +10,11 @@ use lib.Dec.{eqb}
 use lib.ListN.{length, getD, set, length-set}
 use lib.Seq.{getD-set-same, getD-set-other}
 use Rattle.foundation.specs.Tests.{choose}
-use Rattle.model.specs.Tables.{nodeCount, ruleAt, ruleCount}
+use Rattle.model.specs.Tables.{inputRow, inputRowCount, nodeCount, ruleAt, ruleCount}
 use Rattle.kind_words.specs.Listed.{Before, ListOf, RefersBefore}
-use Rattle.kind_words.specs.Kind.{listed, ListsFor}
+use Rattle.kind_words.specs.Chains.{chained-same}
+use Rattle.kind_words.specs.Kind.{listed, listLength, ListsFor, RulesChained}
+use Rattle.chains.specs.Chaining.{Chaining}
 use Rattle.reaching.specs.Marks.{Marked, counted, Closed, RulesMarked, NodesGood, RulesGood, first-smaller, second-smaller}
 
 -- place i of a list that starts at a place
@@ -21,7 +23,7 @@ from reached start i = getD reached (start + i) 0
 
 -- the marked nodes below n are the k nodes on the list
 pub record Listing (marks before reached : List ℕ) (start n k : ℕ) : Type 0 where
-  pub long : length reached ≡ 4096
+  pub long : length reached ≡ length before
   pub few : k ≤ n
   pub below : (i : ℕ) → i < k → from reached start i < n
   pub isMarked : (i : ℕ) → i < k → Marked marks (from reached start i)
@@ -29,10 +31,10 @@ pub record Listing (marks before reached : List ℕ) (start n k : ℕ) : Type 0 
   pub ascending : (i : ℕ) → i < k → (m : ℕ) → m < from reached start i → Marked marks m → Before (from reached start) i m
   pub kept : (j : ℕ) → j < start → getD reached j 0 ≡ getD before j 0
 
-pub listing-none : (marks reached : List ℕ) (start : ℕ) → length reached ≡ 4096 → Listing marks reached reached start 0 0
-listing-none marks reached start long =
+pub listing-none : (marks reached : List ℕ) (start : ℕ) → Listing marks reached reached start 0 0
+listing-none marks reached start =
     record {
-      long = long;
+      long = refl;
       few = omega arith;
       below = λ i h. absurd (omega arith);
       isMarked = λ i h. absurd (omega arith);
@@ -41,7 +43,7 @@ listing-none marks reached start long =
       kept = λ j h. refl;
     }
 
-module _ (marks before reached : List ℕ) (start n k : ℕ) (h : Listing marks before reached start n k) (room : start + k < 4096) where
+module _ (marks before reached : List ℕ) (start n k : ℕ) (h : Listing marks before reached start n k) (room : start + k < length before) where
   abbrev next : List ℕ
   next = set reached (start + k) n
 
@@ -119,31 +121,29 @@ module _ (marks before reached : List ℕ) (start n k : ℕ) (h : Listing marks 
           let z : k + 0 ≡ k = omega arith in
           rw (ne-eqb (getD marks n 0) 1 t) (rw z (without-marked t))
 
--- the nodes that the rules for symbol s reach
-pub record SymbolListed (counts nodes rules : List ℕ) (s : ℕ) (before reached : List ℕ) (n : ℕ) : Type 0 where
-  pub long : length reached ≡ 4096
-  pub few : n ≤ 256
-  pub list : ListOf counts nodes (listed reached s) n
-  pub onList : (r : ℕ) → r < ruleCount rules → ruleAt rules r .symbol ≡ s → Before (listed reached s) n (ruleAt rules r .node)
-  pub kept : (j : ℕ) → j < 256 * s → getD reached j 0 ≡ getD before j 0
+-- the nodes that the rules for symbol s reach, from a place on
+pub record SymbolListed (counts nodes rules : List ℕ) (s start : ℕ) (before lists : List ℕ) (n : ℕ) : Type 0 where
+  pub long : length lists ≡ length before
+  pub few : n ≤ nodeCount nodes
+  pub list : ListOf counts nodes (from lists start) n
+  pub onList : (r : ℕ) → r < ruleCount rules → ruleAt rules r .symbol ≡ s → Before (from lists start) n (ruleAt rules r .node)
+  pub kept : (j : ℕ) → j < start → getD lists j 0 ≡ getD before j 0
 
 -- from marks that are closed, with the nodes of the rules among them
-pub symbol-listed : (counts nodes rules : List ℕ) (s : ℕ) (ruleMarks marks before reached : List ℕ) (start n : ℕ) → NodesGood counts nodes → RulesGood nodes rules
-    → start ≡ 256 * s
+pub symbol-listed : (counts nodes rules : List ℕ) (s start : ℕ) (ruleMarks marks before lists : List ℕ) (n : ℕ) → NodesGood counts nodes → RulesGood nodes rules
     → RulesMarked rules s (ruleCount rules) ruleMarks
     → Closed counts nodes 0 ruleMarks marks
-    → Listing marks before reached start (nodeCount nodes) n
-    → SymbolListed counts nodes rules s before reached n
-symbol-listed counts nodes rules s ruleMarks marks before reached start n good rulesGood es marked closed given =
-    let h : Listing marks before reached (256 * s) (nodeCount nodes) n = subst (λ (x : ℕ). Listing marks before reached x (nodeCount nodes) n) es given in
+    → Listing marks before lists start (nodeCount nodes) n
+    → SymbolListed counts nodes rules s start before lists n
+symbol-listed counts nodes rules s start ruleMarks marks before lists n good rulesGood marked closed h =
     record {
       long = h .long;
-      few = omega (arith, h .few, good .few);
+      few = h .few;
       list =
           record {
             isNode = h .below;
             after = λ i l.
-                let r = closed .referred (listed reached s i) (omega arith) (h .below i l) (h .isMarked i l) in
+                let r = closed .referred (from lists start i) (omega arith) (h .below i l) (h .isMarked i l) in
                 record {
                   first = λ k. h .ascending i l _ (first-smaller good _ (h .below i l) k) (r .first k);
                   second = λ k. h .ascending i l _ (second-smaller good _ (h .below i l) k) (r .second k);
@@ -151,6 +151,19 @@ symbol-listed counts nodes rules s ruleMarks marks before reached start n good r
           };
       onList = λ r l e. h .all (ruleAt rules r .node) (rulesGood .node r l) (closed .grows _ (marked .marked r l e));
       kept = h .kept;
+    }
+
+-- a symbol without rules
+pub none-listed : (counts nodes rules : List ℕ) (s start : ℕ) (lists : List ℕ) → RulesChained rules lists → s < 16
+    → (getD lists (32 + s) 0 < ruleCount rules → ⊥)
+    → SymbolListed counts nodes rules s start lists lists 0
+none-listed counts nodes rules s start lists chained small none =
+    record {
+      long = refl;
+      few = omega arith;
+      list = record { isNode = λ i l. absurd (omega arith); after = λ i l. absurd (omega arith) };
+      onList = λ r l e. absurd (chained .first s small .none r (omega arith) (omega arith) e);
+      kept = λ j l. refl;
     }
 
 pub counted-small : (mark : ℕ) → counted mark ≤ 1
@@ -177,79 +190,166 @@ module _ (list list′ : ℕ → ℕ) (n : ℕ) (same : (i : ℕ) → i < n → 
             });
       }
 
--- the lists of the symbols below s
-pub record ListedTo (counts nodes rules : List ℕ) (s : ℕ) (reached lengths : List ℕ) : Type 0 where
-  pub long : length reached ≡ 4096
-  pub lengthsLong : length lengths ≡ 16
-  pub few : (t : ℕ) → t < s → getD lengths t 0 ≤ 256
-  pub list : (t : ℕ) → t < s → ListOf counts nodes (listed reached t) (getD lengths t 0)
+-- the lists of the symbols below s, one after another from a place on; what stands before that place, from 32 on, is kept
+pub record ListedTo (counts nodes rules : List ℕ) (start s end : ℕ) (before lists : List ℕ) : Type 0 where
+  pub long : length lists ≡ length before
+  pub after : start ≤ end
+  pub room : end + (16 - s) * nodeCount nodes ≤ length before
+  pub begins : (t : ℕ) → t < s → start ≤ getD lists t 0
+  pub inside : (t : ℕ) → t < s → getD lists t 0 + listLength lists t ≤ end
+  pub list : (t : ℕ) → t < s → ListOf counts nodes (listed lists t) (listLength lists t)
   pub onList : (r : ℕ) → r < ruleCount rules → ruleAt rules r .symbol < s
-      → Before (listed reached (ruleAt rules r .symbol)) (getD lengths (ruleAt rules r .symbol) 0) (ruleAt rules r .node)
+      → Before (listed lists (ruleAt rules r .symbol)) (listLength lists (ruleAt rules r .symbol)) (ruleAt rules r .node)
+  pub kept : (j : ℕ) → 32 ≤ j → j < start → getD lists j 0 ≡ getD before j 0
 
-pub listed-none : (counts nodes rules reached lengths : List ℕ) → length reached ≡ 4096 → length lengths ≡ 16 → ListedTo counts nodes rules 0 reached lengths
-listed-none counts nodes rules reached lengths a b =
+pub listed-none : (counts nodes rules : List ℕ) (start : ℕ) (lists : List ℕ) → start + 16 * nodeCount nodes ≤ length lists → ListedTo counts nodes rules start 0 start lists lists
+listed-none counts nodes rules start lists room =
     record {
-      long = a;
-      lengthsLong = b;
-      few = λ t l. absurd (omega arith);
+      long = refl;
+      after = omega arith;
+      room = room;
+      begins = λ t l. absurd (omega arith);
+      inside = λ t l. absurd (omega arith);
       list = λ t l. absurd (omega arith);
       onList = λ r l k. absurd (omega arith);
+      kept = λ j l m. refl;
     }
 
+-- there is room for one more list
+pub list-room : (counts nodes rules : List ℕ) (start s end : ℕ) (before lists : List ℕ) → ListedTo counts nodes rules start s end before lists → s < 16
+    → end + nodeCount nodes ≤ length lists
+list-room counts nodes rules start s end before lists h small =
+    let e : 16 - s ≡ suc (16 - (s + 1)) = omega arith in
+    let r : end + suc (16 - (s + 1)) * nodeCount nodes ≤ length before = rw e at (h .room) in
+    omega (arith, h .long)
+
 -- one symbol more
-pub listed-more : (counts nodes rules : List ℕ) (s : ℕ) (reached lengths reached′ : List ℕ) (n place entry : ℕ) → ListedTo counts nodes rules s reached lengths
-    → SymbolListed counts nodes rules s reached reached′ n
-    → s < 16
-    → place ≡ s
-    → entry ≡ n
-    → ListedTo counts nodes rules (s + 1) reached′ (set lengths place entry)
-listed-more counts nodes rules s reached lengths reached′ n place entry h new small ep en =
-    rw (ep, en)
+module _ (counts nodes rules : List ℕ) (start s end : ℕ) (before lists lists′ : List ℕ) (n : ℕ) (h : ListedTo counts nodes rules start s end before lists)
+    (new : SymbolListed counts nodes rules s end lists lists′ n)
+    (small : s < 16)
+    (base : 64 ≤ start) where
+  abbrev stored : List ℕ
+  stored = set (set lists′ s end) (16 + s) n
+
+  own-start : getD stored s 0 ≡ end
+  own-start =
+      getD-set-other (set lists′ s end) (16 + s) s n 0 (λ e. omega arith)
+      ∙ getD-set-same lists′ s end 0 (omega (arith, new .long, h .long, h .after, h .room))
+
+  own-length : getD stored (16 + s) 0 ≡ n
+  own-length = getD-set-same (set lists′ s end) (16 + s) n 0 (omega (arith, length-set lists′ s end, new .long, h .long, h .after, h .room))
+
+  -- any other place below the new list
+  other : (j : ℕ) → j < end → (j ≡ s → ⊥) → (j ≡ 16 + s → ⊥) → getD stored j 0 ≡ getD lists j 0
+  other j l a b = getD-set-other (set lists′ s end) (16 + s) j n 0 b ∙ getD-set-other lists′ s j end 0 a ∙ new .kept j l
+
+  other-start : (t : ℕ) → t < s → getD stored t 0 ≡ getD lists t 0
+  other-start t l = other t (omega (arith, h .after)) (λ e. omega arith) (λ e. omega arith)
+
+  other-length : (t : ℕ) → t < s → listLength stored t ≡ listLength lists t
+  other-length t l = other (16 + t) (omega (arith, h .after)) (λ e. omega arith) (λ e. omega arith)
+
+  other-listed : (t i : ℕ) → t < s → i < listLength lists t → listed stored t i ≡ listed lists t i
+  other-listed t i l k =
+      ap (λ (x : ℕ). getD stored (x + i) 0) (other-start t l)
+      ∙ other (getD lists t 0 + i) (omega (arith, h .inside t l)) (λ e. omega (arith, h .begins t l)) (λ e. omega (arith, h .begins t l))
+
+  own-listed : (i : ℕ) → listed stored s i ≡ from lists′ end i
+  own-listed i =
+      ap (λ (x : ℕ). getD stored (x + i) 0) own-start
+      ∙ getD-set-other (set lists′ s end) (16 + s) (end + i) n 0 (λ e. omega (arith, h .after))
+      ∙ getD-set-other lists′ s (end + i) end 0 (λ e. omega (arith, h .after))
+
+  room-left : end + n + (16 - (s + 1)) * nodeCount nodes ≤ length before
+  room-left =
+      let e : 16 - s ≡ suc (16 - (s + 1)) = omega arith in
+      let r : end + suc (16 - (s + 1)) * nodeCount nodes ≤ length before = rw e at (h .room) in
+      omega (arith, new .few)
+
+  pub listed-more : (table : List ℕ) → table ≡ stored → ListedTo counts nodes rules start (s + 1) (end + n) before table
+  listed-more table e =
+      rw e
+      (record {
+        long = length-set (set lists′ s end) (16 + s) n ∙ length-set lists′ s end ∙ new .long ∙ h .long;
+        after = omega (arith, h .after);
+        room = room-left;
+        begins = λ t l. from-at t l (ℕ-discrete t s);
+        inside = λ t l. inside-at t l (ℕ-discrete t s);
+        list = λ t l. list-at t l (ℕ-discrete t s);
+        onList = λ r l k. on-at r l k (ℕ-discrete (ruleAt rules r .symbol) s);
+        kept = λ j l m. other j (omega (arith, h .after)) (λ q. omega arith) (λ q. omega arith) ∙ h .kept j l m;
+      })
+    where
+      from-at : (t : ℕ) → t < s + 1 → Dec (t ≡ s) → start ≤ getD stored t 0
+      from-at t l (yes q) = rw (q, own-start) (h .after)
+      from-at t l (no ne) = let l′ : t < s = omega arith in rw (other-start t l′) (h .begins t l′)
+
+      inside-at : (t : ℕ) → t < s + 1 → Dec (t ≡ s) → getD stored t 0 + listLength stored t ≤ end + n
+      inside-at t l (yes q) = rw (q, own-start, own-length) (omega arith)
+      inside-at t l (no ne) = let l′ : t < s = omega arith in rw (other-start t l′, other-length t l′) (omega (arith, h .inside t l′))
+
+      list-at : (t : ℕ) → t < s + 1 → Dec (t ≡ s) → ListOf counts nodes (listed stored t) (listLength stored t)
+      list-at t l (yes q) = rw (q, own-length) (list-same (from lists′ end) (listed stored s) n (λ i k. own-listed i) counts nodes (new .list))
+      list-at t l (no ne) =
+          let l′ : t < s = omega arith in
+          rw (other-length t l′)
+          (list-same (listed lists t) (listed stored t) (listLength lists t) (λ i k. other-listed t i l′ k) counts nodes (h .list t l′))
+
+      on-at : (r : ℕ) → r < ruleCount rules → ruleAt rules r .symbol < s + 1 → Dec (ruleAt rules r .symbol ≡ s)
+          → Before (listed stored (ruleAt rules r .symbol)) (listLength stored (ruleAt rules r .symbol)) (ruleAt rules r .node)
+      on-at r l k (yes q) =
+          rw (q, own-length)
+          (before-same (from lists′ end) (listed stored s) n (λ i m. own-listed i) n (ruleAt rules r .node) (omega arith) (new .onList r l q))
+      on-at r l k (no ne) =
+          let k′ : ruleAt rules r .symbol < s = omega arith in
+          rw (other-length (ruleAt rules r .symbol) k′)
+          (before-same (listed lists (ruleAt rules r .symbol)) (listed stored (ruleAt rules r .symbol)) (listLength lists (ruleAt rules r .symbol))
+          (λ i m. other-listed (ruleAt rules r .symbol) i k′ m)
+          _
+          _
+          (omega arith)
+          (h .onList r l k′))
+
+-- the rules' chains stand
+pub rules-kept : (counts nodes rules : List ℕ) (start s end : ℕ) (before lists : List ℕ) → ListedTo counts nodes rules start s end before lists
+    → 64 + ruleCount rules ≤ start
+    → RulesChained rules before
+    → RulesChained rules lists
+rules-kept counts nodes rules start s end before lists h base chained =
+    chained-same _ _ 32 64 0 before lists
+    (record { first = λ t l. h .kept (32 + t) (omega arith) (omega arith); next = λ r l. h .kept (64 + r) (omega arith) (omega arith) })
+    chained
+
+-- also under the chains of the input rows
+pub rules-through : (rules rows : List ℕ) (from : ℕ) (before ofRules ofRows : List ℕ) → from ≡ 64 + ruleCount rules
+    → Chaining (λ r. ruleAt rules r .symbol) (ruleCount rules) 32 64 0 before ofRules
+    → Chaining (λ r. inputRow rows r .symbol) (inputRowCount rows) 48 from 0 ofRules ofRows
+    → RulesChained rules ofRows
+rules-through rules rows from before ofRules ofRows e a b =
+    chained-same _ _ 32 64 0 ofRules ofRows
     (record {
-      long = new .long;
-      lengthsLong = length-set lengths s n ∙ h .lengthsLong;
-      few = λ t l. few-at t l (ℕ-discrete t s);
-      list = λ t l. list-at t l (ℕ-discrete t s);
-      onList = λ r l k. on-at r l k (ℕ-discrete (ruleAt rules r .symbol) s);
+      first = λ t l. b .kept (32 + t) (record { notFirst = λ s m q. omega arith; notNext = λ r m q. omega arith });
+      next = λ r l. b .kept (64 + r) (record { notFirst = λ s m q. omega arith; notNext = λ i m q. omega arith });
     })
-  where
-    lengths′ : List ℕ
-    lengths′ = set lengths s n
+    (a .chained)
 
-    own : getD lengths′ s 0 ≡ n
-    own = getD-set-same lengths s n 0 (omega (arith, h .lengthsLong))
-
-    other : (t : ℕ) → (t ≡ s → ⊥) → getD lengths′ t 0 ≡ getD lengths t 0
-    other t ne = getD-set-other lengths s t n 0 ne
-
-    same-below : (t i : ℕ) → t < s → i < getD lengths t 0 → listed reached′ t i ≡ listed reached t i
-    same-below t i l k = new .kept (256 * t + i) (omega (arith, h .few t l))
-
-    few-at : (t : ℕ) → t < s + 1 → Dec (t ≡ s) → getD lengths′ t 0 ≤ 256
-    few-at t l (yes e) = rw (e, own) (new .few)
-    few-at t l (no ne) = rw (other t ne) (h .few t (omega arith))
-
-    list-at : (t : ℕ) → t < s + 1 → Dec (t ≡ s) → ListOf counts nodes (listed reached′ t) (getD lengths′ t 0)
-    list-at t l (yes e) = rw (e, own) (new .list)
-    list-at t l (no ne) =
-        let l′ : t < s = omega arith in
-        rw (other t ne) (list-same (listed reached t) (listed reached′ t) (getD lengths t 0) (λ i k. same-below t i l′ k) counts nodes (h .list t l′))
-
-    on-at : (r : ℕ) → r < ruleCount rules → ruleAt rules r .symbol < s + 1 → Dec (ruleAt rules r .symbol ≡ s)
-        → Before (listed reached′ (ruleAt rules r .symbol)) (getD lengths′ (ruleAt rules r .symbol) 0) (ruleAt rules r .node)
-    on-at r l k (yes e) = rw (e, own) (new .onList r l e)
-    on-at r l k (no ne) =
-        let k′ : ruleAt rules r .symbol < s = omega arith in
-        rw (other (ruleAt rules r .symbol) ne)
-        (before-same (listed reached (ruleAt rules r .symbol)) (listed reached′ (ruleAt rules r .symbol)) (getD lengths (ruleAt rules r .symbol) 0)
-        (λ i m. same-below (ruleAt rules r .symbol) i k′ m)
-        _
-        _
-        (omega arith)
-        (h .onList r l k′))
-
--- all sixteen
-pub listed-all : (counts nodes rules reached lengths : List ℕ) → RulesGood nodes rules → ListedTo counts nodes rules 16 reached lengths
-    → ListsFor counts nodes rules reached lengths
-listed-all counts nodes rules reached lengths good h =
-    record { few = h .few; list = h .list; onList = λ r l. h .onList r l (good .symbol r l) }
+-- all sixteen, after the chains of rules and of input rows
+pub listed-all : (counts nodes rules rows : List ℕ) (start end from : ℕ) (before ofRules ofRows lists : List ℕ) → RulesGood nodes rules
+    → from ≡ 64 + ruleCount rules
+    → start ≡ 64 + ruleCount rules + inputRowCount rows
+    → Chaining (λ r. ruleAt rules r .symbol) (ruleCount rules) 32 64 0 before ofRules
+    → Chaining (λ r. inputRow rows r .symbol) (inputRowCount rows) 48 from 0 ofRules ofRows
+    → ListedTo counts nodes rules start 16 end ofRows lists
+    → ListsFor counts nodes rules rows lists
+listed-all counts nodes rules rows start end from before ofRules ofRows lists good ef es rulesChained rowsChained h =
+    record {
+      long = omega (arith, h .after, h .room, h .long);
+      inside = λ s l. omega (arith, h .inside s l, h .room, h .long);
+      list = h .list;
+      onList = λ r l. h .onList r l (good .symbol r l);
+      ofRules = rules-kept counts nodes rules start 16 end ofRows lists h (omega arith) (rules-through rules rows from before ofRules ofRows ef rulesChained rowsChained);
+      ofRows =
+          chained-same _ _ 48 (64 + ruleCount rules) 0 ofRows lists
+          (record { first = λ t l. h .kept (48 + t) (omega arith) (omega arith); next = λ r l. h .kept (64 + ruleCount rules + r) (omega arith) (omega arith) })
+          (rw (← ef) (rowsChained .chained));
+    }

@@ -10,8 +10,9 @@ use lib.Dec.{eqb, leb}
 use lib.ListN.{length, getD, set, length-set}
 use lib.Seq.{getD-set-same, getD-set-other, set-out}
 use Rattle.foundation.specs.Tests.{choose}
-use Rattle.model.specs.Tables.{Contract, Node, nodeAt, nodeCount, ruleAt, ruleCount}
+use Rattle.model.specs.Tables.{Contract, Node, inputRow, inputRowCount, nodeAt, nodeCount, ruleAt, ruleCount}
 use Rattle.model.specs.Admission.{references}
+use Rattle.kind_words.specs.Chains.{NextFrom}
 use Rattle.model.proofs.Laws.Established.{Established, GoodNode, good-parameter, good-nothing, good-symbol, good-call}
 
 -- the nodes of an admitted contract
@@ -24,13 +25,27 @@ pub record NodesGood (counts nodes : List ℕ) : Type 0 where
 pub record RulesGood (nodes rules : List ℕ) : Type 0 where
   pub node : (r : ℕ) → r < ruleCount rules → ruleAt rules r .node < nodeCount nodes
   pub symbol : (r : ℕ) → r < ruleCount rules → ruleAt rules r .symbol < 16
+  pub few : ruleCount rules ≤ 256
+
+-- and its input rows
+pub record RowsGood (rows : List ℕ) : Type 0 where
+  pub symbol : (r : ℕ) → r < inputRowCount rows → inputRow rows r .symbol < 16
+  pub few : inputRowCount rows ≤ 512
 
 pub nodes-good : (C : Contract) → Established C → NodesGood (C .transformation .counts) (C .transformation .nodes)
 nodes-good C known = record { symbols = C .transformation .symbols; few = known .nodes .few; node = known .node }
 
 pub rules-good : (C : Contract) → Established C → RulesGood (C .transformation .nodes) (C .transformation .rules)
 rules-good C known =
-    record { node = λ r h. known .rule r h .node; symbol = λ r h. omega (arith, known .rule r h .symbol, known .symbols .≤most) }
+    record {
+      node = λ r h. known .rule r h .node;
+      symbol = λ r h. omega (arith, known .rule r h .symbol, known .symbols .≤most);
+      few = known .rules .few;
+    }
+
+pub rows-good : (C : Contract) → Established C → RowsGood (C .input .rows)
+rows-good C known =
+    record { symbol = λ r h. omega (arith, known .inputRow r h .symbol, known .symbols .≤most); few = known .inputRows .few }
 
 abbrev pub Marked : List ℕ → ℕ → Type 0
 Marked marks n = getD marks n 0 ≡ 1
@@ -59,13 +74,12 @@ pub record ReferredMarked (counts nodes marks : List ℕ) (n : ℕ) : Type 0 whe
 
 -- what the marked nodes from n on refer to is marked
 pub record Closed (counts nodes : List ℕ) (n : ℕ) (before marks : List ℕ) : Type 0 where
-  pub long : length marks ≡ 256
+  pub long : nodeCount nodes ≤ length marks
   pub grows : Grows before marks
   pub referred : (m : ℕ) → n ≤ m → m < nodeCount nodes → Marked marks m → ReferredMarked counts nodes marks m
 
 -- the nodes of the first n rules, where they are rules for s
 pub record RulesMarked (rules : List ℕ) (s n : ℕ) (marks : List ℕ) : Type 0 where
-  pub long : length marks ≡ 256
   pub marked : (r : ℕ) → r < n → ruleAt rules r .symbol ≡ s → Marked marks (ruleAt rules r .node)
 
 mark-length : (used : Bool) (marks : List ℕ) (n : ℕ) → length (markedIf used marks n) ≡ length marks
@@ -96,29 +110,24 @@ unfolding markedIf
 mark-keeps true marks n j h = let l : n < j = h refl in getD-set-other marks n j 1 0 (λ e. omega arith)
 mark-keeps false marks n j h = refl
 
-pub no-rules-marked : (rules : List ℕ) (s : ℕ) (marks : List ℕ) → length marks ≡ 256 → RulesMarked rules s 0 marks
-no-rules-marked rules s marks long = record { long = long; marked = λ r h. absurd (omega arith) }
-
--- one rule more
-pub rule-marked : (rules : List ℕ) (s r : ℕ) (marks more : List ℕ) → RulesMarked rules s r marks → ruleAt rules r .node < 256
-    → more ≡ markedIf (eqb (ruleAt rules r .symbol) s) marks (ruleAt rules r .node)
-    → RulesMarked rules s (r + 1) more
-rule-marked rules s r marks more h small e =
+-- one rule more, and those after it up to the next rule of its symbol
+pub rule-marked : (rules : List ℕ) (s r k : ℕ) (marks more : List ℕ) → RulesMarked rules s r marks → ruleAt rules r .node < length marks
+    → more ≡ markedIf true marks (ruleAt rules r .node)
+    → NextFrom (λ i. ruleAt rules i .symbol) (ruleCount rules) s (r + 1) k
+    → RulesMarked rules s k more
+rule-marked rules s r k marks more h small e next =
     rw e
-    (record {
-      long = mark-length (eqb (ruleAt rules r .symbol) s) marks (ruleAt rules r .node) ∙ h .long;
-      marked = λ i l t. go i t (ℕ-discrete i r) l;
-    })
+    (record { marked = λ i l t. go i l t (ℕ-discrete i r) (decLt i r) })
   where
-    go : (i : ℕ) → ruleAt rules i .symbol ≡ s → Dec (i ≡ r) → i < r + 1
-        → Marked (markedIf (eqb (ruleAt rules r .symbol) s) marks (ruleAt rules r .node)) (ruleAt rules i .node)
-    go i t (yes q) l =
-        mark-done-at (ruleAt rules i .node) (ap (λ (x : ℕ). ruleAt rules x .node) q) (eq-eqb (ruleAt rules r .symbol) s (sym (ap (λ (x : ℕ). ruleAt rules x .symbol) q) ∙ t))
-      where
-        mark-done-at : (n : ℕ) → n ≡ ruleAt rules r .node → eqb (ruleAt rules r .symbol) s ≡ true
-            → Marked (markedIf (eqb (ruleAt rules r .symbol) s) marks (ruleAt rules r .node)) n
-        mark-done-at n en et = rw en (mark-done (eqb (ruleAt rules r .symbol) s) marks (ruleAt rules r .node) et (omega (arith, h .long)))
-    go i t (no ne) l = mark-grows (eqb (ruleAt rules r .symbol) s) marks (ruleAt rules r .node) (ruleAt rules i .node) (h .marked i (omega arith) t)
+    go : (i : ℕ) → i < k → ruleAt rules i .symbol ≡ s → Dec (i ≡ r) → Dec (i < r) → Marked (markedIf true marks (ruleAt rules r .node)) (ruleAt rules i .node)
+    go i l t (yes q) d = rw q (mark-done true marks (ruleAt rules r .node) refl small)
+    go i l t (no ne) (yes b) = mark-grows true marks (ruleAt rules r .node) (ruleAt rules i .node) (h .marked i b t)
+    go i l t (no ne) (no nb) = absurd (next .none i (omega arith) l t)
+
+-- up to the first rule of a symbol nothing is to be marked
+pub no-rules-marked : (rules : List ℕ) (s k : ℕ) (marks : List ℕ) → NextFrom (λ i. ruleAt rules i .symbol) (ruleCount rules) s 0 k
+    → RulesMarked rules s k marks
+no-rules-marked rules s k marks next = record { marked = λ r h e. absurd (next .none r (omega arith) h e) }
 
 -- a node refers to smaller nodes
 module _ {counts nodes : List ℕ} (good : NodesGood counts nodes) (n : ℕ) (hn : n < nodeCount nodes) where
@@ -188,10 +197,10 @@ module _ {counts nodes : List ℕ} (good : NodesGood counts nodes) (n : ℕ) (hn
           record {
             first = λ l.
                 mark-grows (leb 2 k) once (node .second) _
-                (mark-done (leb 1 k) marks (node .first) (le-leb 1 k l) (omega (arith, first-smaller l, good .few, h .long)));
+                (mark-done (leb 1 k) marks (node .first) (le-leb 1 k l) (omega (arith, first-smaller l, h .long)));
             second = λ l.
                 mark-done (leb 2 k) once (node .second) (le-leb 2 k l)
-                (rw (mark-length (leb 1 k) marks (node .first)) (omega (arith, second-smaller l, good .few, h .long)));
+                (rw (mark-length (leb 1 k) marks (node .first)) (omega (arith, second-smaller l, h .long)));
           }
 
       at : (m : ℕ) → n ≤ m → m < nodeCount nodes → Marked twice m → Dec (m ≡ n) → ReferredMarked counts nodes twice m
@@ -206,7 +215,7 @@ module _ {counts nodes : List ℕ} (good : NodesGood counts nodes) (n : ℕ) (hn
       go (yes t) =
           rw (e, eq-eqb (getD marks n 0) 1 t)
           (record {
-            long = mark-length (leb 2 k) once (node .second) ∙ mark-length (leb 1 k) marks (node .first) ∙ h .long;
+            long = rw (mark-length (leb 2 k) once (node .second), mark-length (leb 1 k) marks (node .first)) (h .long);
             grows = λ j m. grown j (h .grows j m);
             referred = λ m l hm u. at m l hm u (ℕ-discrete m n);
           })
@@ -214,7 +223,7 @@ module _ {counts nodes : List ℕ} (good : NodesGood counts nodes) (n : ℕ) (hn
           rw (e, ne-eqb (getD marks n 0) 1 u)
           (record { long = h .long; grows = h .grows; referred = λ m l hm t. unmarked u m l hm t (ℕ-discrete m n) })
 
-pub closed-none : (counts nodes : List ℕ) (n : ℕ) (marks : List ℕ) → nodeCount nodes ≤ n → length marks ≡ 256 → Closed counts nodes n marks marks
+pub closed-none : (counts nodes : List ℕ) (n : ℕ) (marks : List ℕ) → nodeCount nodes ≤ n → nodeCount nodes ≤ length marks → Closed counts nodes n marks marks
 closed-none counts nodes n marks h long = record { long = long; grows = λ j m. m; referred = λ m l hm t. absurd (omega arith) }
 
 module _ (counts nodes marks : List ℕ) (n : ℕ) where

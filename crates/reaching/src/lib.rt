@@ -1,16 +1,19 @@
-// The nodes that the rules for each symbol reach, once for a contract: a list for each symbol in ascending order, so that a
-// node stands after what it refers to.
+// The table of lists, once for a contract: for each symbol its rules and its input rows, in chains, and the nodes that its rules
+// reach, in ascending order, so that a node stands after what it refers to.
 ghost use mathlib.Core.Path.{_≡_};
 ghost use mathlib.Core.Bool.{true};
 ghost use Prim.Native.Nat.{ℕ, _+_, _*_, _/_, _<_, _≤_};
-ghost use lib.ListN.{length, getD, replicate};
-ghost use lib.Dec.{eqb};
-ghost use Rattle.model.specs.Tables.{nodeAt, nodeCount, ruleAt, ruleCount};
+ghost use lib.ListN.{length, getD, set, replicate};
+ghost use lib.Dec.{ltb};
+ghost use Rattle.model.specs.Tables.{inputRowCount, nodeCount, ruleAt, ruleCount};
 ghost use Rattle.model.specs.Admission.{references};
 ghost use Rattle.tables.specs.Tuples.{nodeOf};
-ghost use Rattle.kind_words.specs.Kind.{ListsFor};
-ghost use Rattle.reaching.specs.Marks.{markedIf, referredMarked, Closed, RulesMarked, counted, NodesGood, RulesGood};
-ghost use Rattle.reaching.specs.Listing.{Listing, SymbolListed};
+ghost use Rattle.kind_words.specs.Kind.{ListsFor, RulesChained, listsLength};
+ghost use Rattle.reaching.specs.Marks.{markedIf, referredMarked, Closed, RulesMarked, counted, NodesGood, RulesGood, RowsGood};
+ghost use Rattle.reaching.specs.Listing.{Listing, SymbolListed, ListedTo};
+use chains::chain_rows;
+use chains::chain_rules;
+use chains::rows_from;
 use lanes::place;
 use tables::Node;
 use tables::Rule;
@@ -18,29 +21,23 @@ use tables::Symbol;
 use tables::node_at;
 use tables::rule_at;
 
-// The lists and lengths of no symbol yet: 256 places for each of 16 symbols.
-pub fn no_lists() -> [u16; 4096]
-    ensures { λ r. ⌜ r ≡ replicate 4096 0 ⌝ }
-{
-    [0u16; 4096]
-}
-
-pub fn no_lengths() -> [u16; 16]
+// Room for the marks of at most sixteen nodes.
+fn few_marks() -> [u16; 16]
     ensures { λ r. ⌜ r ≡ replicate 16 0 ⌝ }
 {
     [0u16; 16]
 }
 
-// No node is marked.
-fn no_marks() -> [u16; 256]
+// Room for the marks of as many nodes as there may be.
+fn most_marks() -> [u16; 256]
     ensures { λ r. ⌜ r ≡ replicate 256 0 ⌝ }
 {
     [0u16; 256]
 }
 
 // Marks node n, where it is used.
-fn mark(marks: &mut [u16; 256], used: bool, n: u16)
-    requires { ⌜ (used ≡ true → n < 256) ⌝ }
+fn mark(marks: &mut [u16], used: bool, n: u16)
+    requires { ⌜ (used ≡ true → n < length (now marks)) ⌝ }
     ensures { λ _. ⌜ now (marks .exit) ≡ markedIf used (now (marks .entry)) n ⌝ }
 {
     if used {
@@ -66,8 +63,8 @@ fn references_of(counts: &[u16], node: Node) -> u16
 }
 
 // Marks what node n refers to, if it is marked.
-fn mark_referred(counts: &[u16], nodes: &[u16], marks: &mut [u16; 256], n: usize)
-    requires { ⌜ NodesGood (now counts) (now nodes) × (n < nodeCount (now nodes)) ⌝ }
+fn mark_referred(counts: &[u16], nodes: &[u16], marks: &mut [u16], n: usize)
+    requires { ⌜ NodesGood (now counts) (now nodes) × (n < nodeCount (now nodes)) × (nodeCount (now nodes) ≤ length (now marks)) ⌝ }
     ensures { λ _. ⌜ now (marks .exit) ≡ referredMarked (now (counts .entry)) (now (nodes .entry)) (now (marks .entry)) n ⌝ }
 {
     if marks[n] == 1 {
@@ -79,8 +76,8 @@ fn mark_referred(counts: &[u16], nodes: &[u16], marks: &mut [u16; 256], n: usize
 }
 
 // Marks whatever a marked node refers to, directly or below: the nodes in descending order.
-fn mark_all_referred(counts: &[u16], nodes: &[u16], marks: &mut [u16; 256])
-    requires { ⌜ NodesGood (now counts) (now nodes) × (length (now marks) ≡ 256) ⌝ }
+fn mark_all_referred(counts: &[u16], nodes: &[u16], marks: &mut [u16])
+    requires { ⌜ NodesGood (now counts) (now nodes) × (nodeCount (now nodes) ≤ length (now marks)) ⌝ }
     ensures { λ _. ⌜ Closed (now (counts .entry)) (now (nodes .entry)) 0 (now (marks .entry)) (now (marks .exit)) ⌝ }
 {
     let mut n = nodes.len() / 5;
@@ -90,25 +87,25 @@ fn mark_all_referred(counts: &[u16], nodes: &[u16], marks: &mut [u16; 256])
     }
 }
 
-// Marks the node of rule r, if it is a rule for the symbol.
-fn mark_rule(rules: &[u16], symbol: Symbol, marks: &mut [u16; 256], r: usize)
-    requires { ⌜ (r < ruleCount (now rules)) × (ruleAt (now rules) r .node < 256) ⌝ }
-    ensures { λ _. ⌜ now (marks .exit) ≡ markedIf (eqb (ruleAt (now (rules .entry)) r .symbol) (symbol .0)) (now (marks .entry)) (ruleAt (now (rules .entry)) r .node) ⌝ }
+// Marks the node of rule r.
+fn mark_rule(rules: &[u16], marks: &mut [u16], r: usize)
+    requires { ⌜ (r < ruleCount (now rules)) × (ruleAt (now rules) r .node < length (now marks)) ⌝ }
+    ensures { λ _. ⌜ now (marks .exit) ≡ markedIf true (now (marks .entry)) (ruleAt (now (rules .entry)) r .node) ⌝ }
 {
     let rule = rule_at(rules, r);
-    mark(marks, rule.symbol.0 == symbol.0, rule.node);
+    mark(marks, true, rule.node);
 }
 
-// Marks the nodes of the rules for the symbol.
-fn mark_rules(rules: &[u16], symbol: Symbol, marks: &mut [u16; 256])
-    requires { ⌜ ((r : ℕ) → r < ruleCount (now rules) → ruleAt (now rules) r .node < 256) × (length (now marks) ≡ 256) ⌝ }
+// Marks the nodes of the rules for the symbol: the rules in the symbol's chain.
+fn mark_rules(rules: &[u16], lists: &[u16], symbol: Symbol, marks: &mut [u16])
+    requires { ⌜ ((r : ℕ) → r < ruleCount (now rules) → ruleAt (now rules) r .node < length (now marks)) × RulesChained (now rules) (now lists) × (64 + ruleCount (now rules) ≤ length (now lists)) × (symbol .0 < 16) ⌝ }
     ensures { λ _. ⌜ RulesMarked (now (rules .entry)) (symbol .0) (ruleCount (now (rules .entry))) (now (marks .exit)) ⌝ }
 {
     let n = rules.len() / 3;
-    let mut r: usize = 0;
+    let mut r = place(lists[32 + place(symbol.0)]);
     while r < n {
-        mark_rule(rules, symbol, marks, r);
-        r += 1;
+        mark_rule(rules, marks, r);
+        r = place(lists[64 + r]);
     }
 }
 
@@ -124,25 +121,52 @@ fn count_mark(mark: u16) -> usize
 
 // A number as a table entry.
 fn entry_of(n: usize) -> u16
-    requires { ⌜ n ≤ 256 ⌝ }
+    requires { ⌜ n < 65536 ⌝ }
     ensures { λ r. ⌜ r ≡ n ⌝ }
 {
     n as u16
 }
 
 // Lists the marked nodes below `count` from a place on, and returns how many they are.
-fn list_marked(marks: &[u16; 256], count: usize, reached: &mut [u16; 4096], start: usize) -> usize
-    requires { ⌜ (count ≤ 256) × (start + 256 ≤ 4096) × (length (now reached) ≡ 4096) ⌝ }
-    ensures { λ r. ⌜ Listing (now (marks .entry)) (now (reached .entry)) (now (reached .exit)) start count r ⌝ }
+fn list_marked(marks: &[u16], count: usize, lists: &mut [u16], start: usize) -> usize
+    requires { ⌜ (count ≤ 256) × (count ≤ length (now marks)) × (start + count ≤ length (now lists)) ⌝ }
+    ensures { λ r. ⌜ Listing (now (marks .entry)) (now (lists .entry)) (now (lists .exit)) start count r ⌝ }
 {
     let mut listed: usize = 0;
     let mut n: usize = 0;
     while n < count {
-        reached[start + listed] = entry_of(n);
+        lists[start + listed] = entry_of(n);
         listed += count_mark(marks[n]);
         n += 1;
     }
     listed
+}
+
+// Whether there is a rule for the symbol.
+fn has_rules(rules: &[u16], lists: &[u16], symbol: Symbol) -> bool
+    requires { ⌜ (symbol .0 < 16) × (64 ≤ length (now lists)) ⌝ }
+    ensures { λ r. ⌜ r ≡ ltb (getD (now (lists .entry)) (32 + symbol .0) 0) (ruleCount (now (rules .entry))) ⌝ }
+{
+    let n = rules.len() / 3;
+    place(lists[32 + place(symbol.0)]) < n
+}
+
+// Lists the nodes that the rules for a symbol reach, with room for marks, and returns how many they are.
+fn list_reached(
+    counts: &[u16],
+    nodes: &[u16],
+    rules: &[u16],
+    symbol: Symbol,
+    marks: &mut [u16],
+    lists: &mut [u16],
+    start: usize,
+) -> usize
+    requires { ⌜ NodesGood (now counts) (now nodes) × RulesGood (now nodes) (now rules) × (symbol .0 < 16) × RulesChained (now rules) (now lists) × (64 + ruleCount (now rules) ≤ start) × (start + nodeCount (now nodes) ≤ length (now lists)) × (nodeCount (now nodes) ≤ length (now marks)) ⌝ }
+    ensures { λ r. ⌜ SymbolListed (now (counts .entry)) (now (nodes .entry)) (now (rules .entry)) (symbol .0) start (now (lists .entry)) (now (lists .exit)) r ⌝ }
+{
+    mark_rules(rules, lists, symbol, marks);
+    mark_all_referred(counts, nodes, marks);
+    list_marked(marks, nodes.len() / 5, lists, start)
 }
 
 // Lists the nodes that the rules for a symbol reach, and returns how many they are.
@@ -151,32 +175,91 @@ fn list_symbol(
     nodes: &[u16],
     rules: &[u16],
     symbol: Symbol,
-    reached: &mut [u16; 4096],
+    lists: &mut [u16],
+    start: usize,
 ) -> usize
-    requires { ⌜ NodesGood (now counts) (now nodes) × RulesGood (now nodes) (now rules) × (symbol .0 < 16) × (length (now reached) ≡ 4096) ⌝ }
-    ensures { λ r. ⌜ SymbolListed (now (counts .entry)) (now (nodes .entry)) (now (rules .entry)) (symbol .0) (now (reached .entry)) (now (reached .exit)) r ⌝ }
+    requires { ⌜ NodesGood (now counts) (now nodes) × RulesGood (now nodes) (now rules) × (symbol .0 < 16) × RulesChained (now rules) (now lists) × (64 + ruleCount (now rules) ≤ start) × (start + nodeCount (now nodes) ≤ length (now lists)) ⌝ }
+    ensures { λ r. ⌜ SymbolListed (now (counts .entry)) (now (nodes .entry)) (now (rules .entry)) (symbol .0) start (now (lists .entry)) (now (lists .exit)) r ⌝ }
 {
-    let mut marks = no_marks();
-    mark_rules(rules, symbol, &mut marks);
-    mark_all_referred(counts, nodes, &mut marks);
-    list_marked(&marks, nodes.len() / 5, reached, 256 * place(symbol.0))
+    if has_rules(rules, lists, symbol) {
+        if nodes.len() <= 80 {
+            let mut marks = few_marks();
+            return list_reached(counts, nodes, rules, symbol, &mut marks, lists, start);
+        }
+        let mut marks = most_marks();
+        return list_reached(counts, nodes, rules, symbol, &mut marks, lists, start);
+    }
+    0
 }
 
-// Lists the nodes that each symbol's rules reach: those of symbol s from place 256 * s on, as many as `lengths` says.
-pub fn reached_nodes(
+// Keeps where the list of a symbol starts and how long it is.
+fn store_list(lists: &mut [u16], symbol: Symbol, start: usize, count: usize)
+    requires { ⌜ (symbol .0 < 16) × (32 ≤ length (now lists)) × (start < 65536) × (count < 65536) ⌝ }
+    ensures { λ _. ⌜ now (lists .exit) ≡ set (set (now (lists .entry)) (symbol .0) start) (16 + symbol .0) count ⌝ }
+{
+    let s = place(symbol.0);
+    lists[s] = entry_of(start);
+    lists[16 + s] = entry_of(count);
+}
+
+// Lists the nodes that each symbol's rules reach, one list after another from a place on, and returns where they end.
+fn list_nodes(
     counts: &[u16],
     nodes: &[u16],
     rules: &[u16],
-    reached: &mut [u16; 4096],
-    lengths: &mut [u16; 16],
-)
-    requires { ⌜ NodesGood (now counts) (now nodes) × RulesGood (now nodes) (now rules) × (length (now reached) ≡ 4096) × (length (now lengths) ≡ 16) ⌝ }
-    ensures { λ _. ⌜ ListsFor (now (counts .entry)) (now (nodes .entry)) (now (rules .entry)) (now (reached .exit)) (now (lengths .exit)) ⌝ }
+    lists: &mut [u16],
+    start: usize,
+) -> usize
+    requires { ⌜ NodesGood (now counts) (now nodes) × RulesGood (now nodes) (now rules) × RulesChained (now rules) (now lists) × (64 + ruleCount (now rules) ≤ start) × (start + 16 * nodeCount (now nodes) ≤ length (now lists)) × (length (now lists) < 65536) ⌝ }
+    ensures { λ r. ⌜ ListedTo (now (counts .entry)) (now (nodes .entry)) (now (rules .entry)) start 16 r (now (lists .entry)) (now (lists .exit)) ⌝ }
 {
+    let mut end: usize = start;
     let mut s: u16 = 0;
     while s < 16 {
-        let listed = list_symbol(counts, nodes, rules, Symbol(s), reached);
-        lengths[place(s)] = entry_of(listed);
+        let count = list_symbol(counts, nodes, rules, Symbol(s), lists, end);
+        store_list(lists, Symbol(s), end, count);
+        end += count;
         s += 1;
     }
+    end
+}
+
+// From where on the table of lists has the nodes.
+fn nodes_from(rules: &[u16], rows: &[u16]) -> usize
+    requires { ⌜ (ruleCount (now rules) ≤ 256) × (inputRowCount (now rows) ≤ 512) ⌝ }
+    ensures { λ r. ⌜ r ≡ 64 + ruleCount (now (rules .entry)) + inputRowCount (now (rows .entry)) ⌝ }
+{
+    rows_from(rules) + rows.len() / 4
+}
+
+// How many numbers the table of lists takes at most.
+pub fn lists_length(rows: &[u16], nodes: &[u16], rules: &[u16]) -> usize
+    requires { ⌜ (inputRowCount (now rows) ≤ 512) × (nodeCount (now nodes) ≤ 256) × (ruleCount (now rules) ≤ 256) ⌝ }
+    ensures { λ r. ⌜ r ≡ listsLength (now (rows .entry)) (now (nodes .entry)) (now (rules .entry)) ⌝ }
+{
+    nodes_from(rules, rows) + 16 * (nodes.len() / 5)
+}
+
+// Room for the table of lists of a small contract.
+pub fn few_lists() -> [u16; 256]
+    ensures { λ r. ⌜ r ≡ replicate 256 0 ⌝ }
+{
+    [0u16; 256]
+}
+
+// Room for the table of lists of every contract.
+pub fn most_lists() -> [u16; 4928]
+    ensures { λ r. ⌜ r ≡ replicate 4928 0 ⌝ }
+{
+    [0u16; 4928]
+}
+
+// Fills the table of lists.
+pub fn fill_lists(counts: &[u16], rows: &[u16], nodes: &[u16], rules: &[u16], lists: &mut [u16])
+    requires { ⌜ NodesGood (now counts) (now nodes) × RulesGood (now nodes) (now rules) × RowsGood (now rows) × (listsLength (now rows) (now nodes) (now rules) ≤ length (now lists)) × (length (now lists) < 65536) ⌝ }
+    ensures { λ _. ⌜ ListsFor (now (counts .entry)) (now (nodes .entry)) (now (rules .entry)) (now (rows .entry)) (now (lists .exit)) ⌝ }
+{
+    chain_rules(rules, lists);
+    chain_rows(rows, rows_from(rules), lists);
+    list_nodes(counts, nodes, rules, lists, nodes_from(rules, rows));
 }

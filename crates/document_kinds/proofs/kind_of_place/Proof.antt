@@ -10,16 +10,16 @@ use Rattle.document_kinds.specs.Stored.{kind-words, kind-node, kind-empt
 use Rattle.document_kinds.proofs.kind_of_place.Statement.{statement}
 use Rattle.document_kinds.proofs.kind_of_place.Tie as tie
 
-mul-t18 : tie.Need-mul-t18
-mul-t18 c = search needs
+mul-t17 : tie.Need-mul-t17
+mul-t17 c = search needs
 
-shared-slice-read-t20 : tie.Need-shared-slice-read-t20
-shared-slice-read-t20 c = search needs
+shared-slice-read-t19 : tie.Need-shared-slice-read-t19
+shared-slice-read-t19 c = search needs
 
 returns : tie.Need-returns
 returns c =
-    let args = c .before .before .before .before .before .before .before .before .before .args in
-    let pre = c .before .before .before .before .before .before .before .before .before .pre in
+    let args = c .before .before .before .before .before .before .before .before .before .before .before .args in
+    let pre = c .before .before .before .before .before .before .before .before .before .before .before .pre in
     λ S I inputMarks outputMarks prepared.
     pre .6 S I inputMarks outputMarks prepared ∙ kind-empty _ _ (leaf-place (args .numbers .now) (args .i) (pre .4) (c .if1 .taken))
 
@@ -28,30 +28,30 @@ add-kind-at c = search needs
 
 kind-at-requires : tie.Need-kind-at-requires
 kind-at-requires c κs =
-    let args = c .before .before .before .before .before .before .before .before .before .args in
-    let pre = c .before .before .before .before .before .before .before .before .before .pre in
+    let args = c .before .before .before .before .before .before .before .before .before .before .before .args in
+    let pre = c .before .before .before .before .before .before .before .before .before .before .before .pre in
     let inner = inner-place (args .numbers .now) (pre .1) (args .i) (pre .4) (omega arith) in
-    omega (arith, inner .left, pre .2)
+    omega (arith, inner .left, pre .7 .long)
 
 right-child-requires : tie.Need-right-child-requires
 right-child-requires c κs =
-    let args = c .before .before .before .before .before .before .before .before .before .before .args in
-    let pre = c .before .before .before .before .before .before .before .before .before .before .pre in
+    let args = c .before .before .before .before .before .before .before .before .before .before .before .before .args in
+    let pre = c .before .before .before .before .before .before .before .before .before .before .before .before .pre in
     let inner = inner-place (args .numbers .now) (pre .1) (args .i) (pre .4) (omega arith) in
     omega (arith, inner .left, pre .2)
 
 kind-at-requires-2 : tie.Need-kind-at-requires-2
 kind-at-requires-2 c κs =
-    let args = c .before .before .before .before .before .before .before .before .before .before .before .args in
-    let pre = c .before .before .before .before .before .before .before .before .before .before .before .pre in
+    let args = c .before .before .before .before .before .before .before .before .before .before .before .before .before .args in
+    let pre = c .before .before .before .before .before .before .before .before .before .before .before .before .before .pre in
     let inner = inner-place (args .numbers .now) (pre .1) (args .i) (pre .4) (omega arith) in
     let e : c .right-child .result ≡ endFrom (args .numbers .now) (args .i + 1) = c .right-child .ensures ∙ pre .5 (args .i + 1) (omega arith) (inner .left) in
-    omega (arith, inner .right, pre .2)
+    omega (arith, inner .right, pre .7 .long)
 
 next-kind-requires : tie.Need-next-kind-requires
 next-kind-requires c κs =
-    let args = c .before .before .before .before .before .before .before .before .before .before .before .before .before .before .args in
-    let pre = c .before .before .before .before .before .before .before .before .before .before .before .before .before .before .pre in
+    let args = c .before .before .before .before .before .before .before .before .before .before .before .before .before .before .before .before .args in
+    let pre = c .before .before .before .before .before .before .before .before .before .before .before .before .before .before .before .before .pre in
     let inner = inner-place (args .numbers .now) (pre .1) (args .i) (pre .4) (omega arith) in
     let e : c .before .before .before .right-child .result ≡ endFrom (args .numbers .now) (args .i + 1) = c .before .before .before .right-child .ensures ∙ pre .5 (args .i + 1) (omega arith) (inner .left) in
     let r = pre .0 in
@@ -63,8 +63,8 @@ next-kind-requires c κs =
 
 returns-2 : tie.Need-returns-2
 returns-2 c =
-    let args = c .before .before .before .before .before .before .before .before .before .before .before .before .before .before .before .args in
-    let pre = c .before .before .before .before .before .before .before .before .before .before .before .before .before .before .before .pre in
+    let args = c .before .before .before .before .before .before .before .before .before .before .before .before .before .before .before .before .before .args in
+    let pre = c .before .before .before .before .before .before .before .before .before .before .before .before .before .before .before .before .before .pre in
     let inner = inner-place (args .numbers .now) (pre .1) (args .i) (pre .4) (omega arith) in
     let e : c .before .before .before .before .right-child .result ≡ endFrom (args .numbers .now) (args .i + 1) = c .before .before .before .before .right-child .ensures ∙ pre .5 (args .i + 1) (omega arith) (inner .left) in
     let later : args .i + 1 ≤ c .before .before .before .before .right-child .result = omega arith in
@@ -80,8 +80,8 @@ pub kind-of-place-spec : {M : Type 1} → statement M
 kind-of-place-spec =
     tie.close
     (tie.spec
-    mul-t18
-    shared-slice-read-t20
+    mul-t17
+    shared-slice-read-t19
     returns
     add-kind-at
     kind-at-requires

@@ -8,7 +8,7 @@ use Rattle.kinds.proofs.empty_kind.Statement.{statement}
 use Rattle.kinds.proofs.empty_kind.Tie as tie
 
 next-kind-requires : tie.Need-next-kind-requires
-next-kind-requires c κs = (c .before .before .before .before .before .before .before .pre, omega arith, below-words, below-words)
+next-kind-requires c κs = (c .before .before .before .before .before .before .before .before .pre, omega arith, below-words, below-words)
 
 returns : tie.Need-returns
 returns c = λ S I inputMarks outputMarks prepared.

@@ -1,12 +1,12 @@
--- A row's states are below 32, so that its bits fit; a row of another symbol gives nothing.
-use mathlib.Core.Path.{ap, sym, _∙_}
+-- A row's states are below 32, so that its bits fit.
+use mathlib.Core.Path.{refl, ap, _∙_}
 use Prim.Native.Nat.{ℕ, _-_, _*_, _/_, _^_, _<_}
 use native.Mathlib.Omega.{arith}
 use borrow.Author.Needs.{needs}
 use lib.Bits.{bitAnd}
 use Rattle.model.specs.Tables
 use Rattle.kind_words.specs.Blocks.{one-at}
-use Rattle.kind_words.specs.States.{row-taken, row-skipped}
+use Rattle.kind_words.specs.States.{row-taken}
 use Rattle.kinds.proofs.row_state.Statement.{statement}
 use Rattle.kinds.proofs.row_state.Tie as tie
 
@@ -18,9 +18,9 @@ wide-requires c κs = search needs
 
 shr-up : tie.Need-shr-up
 shr-up c =
-    let pre = c .before .before .before .before .before .before .pre in
-    let e = ap (λ (x : Tables.InputRow). x .left) (c .before .before .before .before .input-row-at .ensures) in
-    let h : c .wide .result < 32 = rw (c .wide .ensures, e) (pre .0 .left (c .before .before .before .before .before .before .args .r) (pre .1)) in
+    let pre = c .before .before .before .pre in
+    let e = ap (λ (x : Tables.InputRow). x .left) (c .before .input-row-at .ensures) in
+    let h : c .wide .result < 32 = rw (c .wide .ensures, e) (pre .0 .left (c .before .before .before .args .r) (pre .1)) in
     omega arith
 
 wide-requires-2 : tie.Need-wide-requires-2
@@ -28,9 +28,9 @@ wide-requires-2 c κs = search needs
 
 shr-up-2 : tie.Need-shr-up-2
 shr-up-2 c =
-    let pre = c .before .before .before .before .before .before .before .pre in
-    let e = ap (λ (x : Tables.InputRow). x .right) (c .before .before .before .before .before .input-row-at .ensures) in
-    let h : c .wide2 .result < 32 = rw (c .wide2 .ensures, e) (pre .0 .right (c .before .before .before .before .before .before .before .args .r) (pre .1)) in
+    let pre = c .before .before .before .before .pre in
+    let e = ap (λ (x : Tables.InputRow). x .right) (c .before .before .input-row-at .ensures) in
+    let h : c .wide2 .result < 32 = rw (c .wide2 .ensures, e) (pre .0 .right (c .before .before .before .before .args .r) (pre .1)) in
     omega arith
 
 wide-requires-3 : tie.Need-wide-requires-3
@@ -38,9 +38,9 @@ wide-requires-3 c κs = search needs
 
 up-requires : tie.Need-up-requires
 up-requires c κs =
-    let args = c .before .before .before .before .before .before .before .before .args in
-    let pre = c .before .before .before .before .before .before .before .before .pre in
-    let e = ap (λ (x : Tables.InputRow). x .state) (c .before .before .before .before .before .before .input-row-at .ensures) in
+    let args = c .before .before .before .before .before .args in
+    let pre = c .before .before .before .before .before .pre in
+    let e = ap (λ (x : Tables.InputRow). x .state) (c .before .before .before .input-row-at .ensures) in
     let h : c .wide3 .result < 32 = rw (c .wide3 .ensures, e) (pre .0 .state (args .r) (pre .1)) in
     let l : c .wide3 .result < 64 = omega arith in
     let small : (x : ℕ) → bitAnd x 1 * 2 ^ c .wide3 .result < 2 ^ 64 = λ x. one-at x (c .wide3 .result) 64 l .0 in
@@ -48,18 +48,11 @@ up-requires c κs =
 
 returns : tie.Need-returns
 returns c =
-    let args = c .before .before .before .before .before .before .before .before .before .args in
-    let e = ap (λ (x : Tables.InputRow). x .symbol) (c .before .before .before .before .before .before .before .input-row-at .ensures) in
-    let q = ap (λ (x : Tables.InputRow). x .state) (c .before .before .before .before .before .before .before .input-row-at .ensures) in
-    let x = ap (λ (x : Tables.InputRow). x .left) (c .before .before .before .before .before .before .before .input-row-at .ensures) in
-    let y = ap (λ (x : Tables.InputRow). x .right) (c .before .before .before .before .before .before .before .input-row-at .ensures) in
-    c .up .ensures ∙ row-taken (args .rows .now) (args .symbol .0) (args .left) (args .right) (args .r) (c .before .wide3 .result) (c .before .before .before .wide .result) (c .before .before .wide2 .result) (sym e ∙ c .before .before .before .before .if1 .taken) (c .before .wide3 .ensures ∙ q) (c .before .before .before .wide .ensures ∙ x) (c .before .before .wide2 .ensures ∙ y)
-
-returns-2 : tie.Need-returns-2
-returns-2 c =
-    let args = c .before .before .before .before .before .args in
-    let e = ap (λ (x : Tables.InputRow). x .symbol) (c .before .before .before .input-row-at .ensures) in
-    row-skipped (args .rows .now) (args .symbol .0) (args .left) (args .right) (args .r) (λ z. c .if1 .left (e ∙ z))
+    let args = c .before .before .before .before .before .before .args in
+    let q = ap (λ (x : Tables.InputRow). x .state) (c .before .before .before .before .input-row-at .ensures) in
+    let x = ap (λ (x : Tables.InputRow). x .left) (c .before .before .before .before .input-row-at .ensures) in
+    let y = ap (λ (x : Tables.InputRow). x .right) (c .before .before .before .before .input-row-at .ensures) in
+    c .up .ensures ∙ row-taken (args .rows .now) _ (args .left) (args .right) (args .r) (c .before .wide3 .result) (c .before .before .before .wide .result) (c .before .before .wide2 .result) refl (c .before .wide3 .ensures ∙ q) (c .before .before .before .wide .ensures ∙ x) (c .before .before .wide2 .ensures ∙ y)
 
 pub row-state-spec : {M : Type 1} → statement M
 row-state-spec =
@@ -72,5 +65,4 @@ row-state-spec =
     shr-up-2
     wide-requires-3
     up-requires
-    returns
-    returns-2)
+    returns)

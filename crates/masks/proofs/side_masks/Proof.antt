@@ -9,39 +9,39 @@ use Rattle.masks.proofs.side_masks.Statement.{statement}
 use Rattle.masks.proofs.side_masks.Tie as tie
 
 abbrev Inv-loop : tie.InvT-loop
-Inv-loop symbols input-states output-states counts input-rows input-marks output-table output-marks nodes rules offsets reached lengths on-right masks₀ s₀ masks s =
+Inv-loop symbols input-states output-states counts input-rows input-marks output-table output-marks nodes rules offsets lists on-right masks₀ s₀ masks s =
     (1 ≤ s) × (s ≤ symbols) × AllSee (contract symbols input-states output-states counts input-rows input-marks output-table output-marks nodes rules) on-right s masks
 
 abbrev μ-loop : tie.MeasureT-loop
-μ-loop symbols input-states output-states counts input-rows input-marks output-table output-marks nodes rules offsets reached lengths on-right masks₀ s₀ masks s =
+μ-loop symbols input-states output-states counts input-rows input-marks output-table output-marks nodes rules offsets lists on-right masks₀ s₀ masks s =
     symbols - s
 
 loop-holds : tie.Need-loop-holds Inv-loop μ-loop
-loop-holds c = (omega arith, c .before .before .before .before .before .before .before .pre .0 .established .symbols .least≤, see-none _ _ _ (c .before .before .before .before .before .before .before .pre .1))
+loop-holds c = (omega arith, c .before .before .before .before .before .before .before .before .pre .0 .established .symbols .least≤, see-none _ _ _ (c .before .before .before .before .before .before .before .before .pre .1))
 
 place-requires : tie.Need-place-requires Inv-loop μ-loop
 place-requires c κs = tt
 
 mask-of-requires : tie.Need-mask-of-requires Inv-loop μ-loop
-mask-of-requires c κs = (c .before .before .before .before .before .before .before .before .before .before .pre .0, omega (arith, c .before .before .before .before .before .before .before .before .before .before .pre .0 .established .symbols .≤most))
+mask-of-requires c κs = (c .before .before .before .before .before .before .before .before .before .before .before .pre .0, omega (arith, c .before .before .before .before .before .before .before .before .before .before .before .pre .0 .established .symbols .≤most))
 
 place-requires-2 : tie.Need-place-requires-2 Inv-loop μ-loop
 place-requires-2 c κs = tt
 
 store-mask-requires : tie.Need-store-mask-requires Inv-loop μ-loop
-store-mask-requires c κs = omega (arith, c .before .before .before .before .before .before .before .before .before .before .before .before .before .before .pre .0 .established .symbols .≤most)
+store-mask-requires c κs = omega (arith, c .before .before .before .before .before .before .before .before .before .before .before .before .before .before .before .pre .0 .established .symbols .≤most)
 
 add-s : tie.Need-add-s Inv-loop μ-loop
-add-s c = omega (arith, c .before .before .before .before .before .before .before .before .before .before .before .before .before .before .before .pre .0 .established .symbols .≤most)
+add-s c = omega (arith, c .before .before .before .before .before .before .before .before .before .before .before .before .before .before .before .before .pre .0 .established .symbols .≤most)
 
 loop-less : tie.Need-loop-less Inv-loop μ-loop
 loop-less c = omega arith
 
 loop-again : tie.Need-loop-again Inv-loop μ-loop
 loop-again c =
-    let args = c .before .before .before .before .before .before .before .before .before .before .before .before .before .before .before .args in
+    let args = c .before .before .before .before .before .before .before .before .before .before .before .before .before .before .before .before .args in
     let loop = c .before .before .before .before .before .before .before .loop in
-    let known = c .before .before .before .before .before .before .before .before .before .before .before .before .before .before .before .pre .0 .established in
+    let known = c .before .before .before .before .before .before .before .before .before .before .before .before .before .before .before .before .pre .0 .established in
     let C : Contract =
     contract (args .symbols) (args .input-states) (args .output-states) (args .counts .now) (args .input-rows .now) (args .input-marks .now)
     (args .output-table .now) (args .output-marks .now) (args .nodes .now) (args .rules .now) in
@@ -52,7 +52,7 @@ loop-again c =
 
 returns : tie.Need-returns Inv-loop μ-loop
 returns c =
-    let e : c .before .before .loop .s ≡ c .before .before .before .before .before .before .before .before .before .before .args .symbols = omega arith in
+    let e : c .before .before .loop .s ≡ c .before .before .before .before .before .before .before .before .before .before .before .args .symbols = omega arith in
     rw e at (c .before .before .loop .inv .2)
 
 pub side-masks-spec : {M : Type 1} → statement M

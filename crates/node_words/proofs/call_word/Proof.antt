@@ -10,12 +10,12 @@ use Rattle.node_words.proofs.call_word.Tie as tie
 
 spread-requires : tie.Need-spread-requires
 spread-requires c κs =
-    let args = c .before .args in
-    let pre = c .before .pre in
+    let args = c .before .before .args in
+    let pre = c .before .before .pre in
     (omega arith, times-fits (args .layout .states) (args .layout .width) (args .layout .ones) (args .layout .starts) (args .layout .ones) (args .facts) 0 (pre .0 .laid) (ones-less (args .layout .width) (args .layout .ones) (pre .0 .laid .lane)))
 
 returns : tie.Need-returns
-returns c = rw (eq-eqb (c .before .before .args .count) 0 (c .before .if1 .taken)) (c .spread .ensures)
+returns c = rw (eq-eqb (c .before .before .before .args .count) 0 (c .before .if1 .taken)) (c .spread .ensures)
 
 place-requires : tie.Need-place-requires
 place-requires c κs = search needs
@@ -23,16 +23,15 @@ place-requires c κs = search needs
 mul-a : tie.Need-mul-a
 mul-a c = search needs
 
-element-copy-out-a : tie.Need-element-copy-out-a
-element-copy-out-a c = let h : c .before .before .args .first < 256 = c .before .before .pre .1 (omega arith) in
-    omega (arith, c .place .ensures)
+shared-slice-read-a : tie.Need-shared-slice-read-a
+shared-slice-read-a c = rw (c .before .place .ensures) (c .before .before .before .before .pre .1 (omega arith))
 
 call-one-requires : tie.Need-call-one-requires
 call-one-requires c κs = search needs
 
 returns-2 : tie.Need-returns-2
 returns-2 c =
-    let args = c .before .before .before .before .before .args in
+    let args = c .before .before .before .before .before .before .args in
     rw (ne-eqb (args .count) 0 (c .before .before .before .before .if1 .left), eq-eqb (args .count) 1 (c .before .if2 .taken)) (c .call-one .ensures ∙ rw (c .before .before .before .place .ensures))
 
 place-requires-2 : tie.Need-place-requires-2
@@ -41,18 +40,17 @@ place-requires-2 c κs = search needs
 mul-call-two : tie.Need-mul-call-two
 mul-call-two c = search needs
 
-element-copy-out-call-two : tie.Need-element-copy-out-call-two
-element-copy-out-call-two c = let h : c .before .before .before .before .before .args .second < 256 = c .before .before .before .before .before .pre .2 (omega arith) in
-    omega (arith, c .place2 .ensures)
+shared-slice-read-call-two : tie.Need-shared-slice-read-call-two
+shared-slice-read-call-two c = rw (c .before .place2 .ensures) (c .before .before .before .before .before .before .before .pre .2 (omega arith))
 
 call-two-requires : tie.Need-call-two-requires
 call-two-requires c κs =
-    let pre = c .before .before .before .before .before .before .pre in
-    (pre .0 .laid, omega (arith, square-small (c .before .before .before .before .before .before .args .layout .states) (pre .0 .few)))
+    let pre = c .before .before .before .before .before .before .before .pre in
+    (pre .0 .laid, omega (arith, square-small (c .before .before .before .before .before .before .before .args .layout .states) (pre .0 .few)))
 
 returns-3 : tie.Need-returns-3
 returns-3 c =
-    let args = c .before .before .before .before .before .before .before .args in
+    let args = c .before .before .before .before .before .before .before .before .args in
     rw (ne-eqb (args .count) 0 (c .before .before .before .before .before .before .if1 .left), ne-eqb (args .count) 1 (c .before .before .before .if2 .left)) (c .call-two .ensures ∙ rw (c .before .before .before .before .before .place .ensures, c .before .before .place2 .ensures))
 
 pub call-word-spec : {M : Type 1} → statement M
@@ -63,11 +61,11 @@ call-word-spec =
     returns
     place-requires
     mul-a
-    element-copy-out-a
+    shared-slice-read-a
     call-one-requires
     returns-2
     place-requires-2
     mul-call-two
-    element-copy-out-call-two
+    shared-slice-read-call-two
     call-two-requires
     returns-3)

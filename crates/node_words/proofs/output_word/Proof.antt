@@ -18,22 +18,22 @@ wide-requires c κs = search needs
 
 mul-up : tie.Need-mul-up
 mul-up c =
-    let args = c .before .before .before .before .before .before .args in
-    let pre = c .before .before .before .before .before .before .pre in
+    let args = c .before .before .before .before .before .before .before .args in
+    let pre = c .before .before .before .before .before .before .before .pre in
     let z : c .before .wide .result ≡ getD (args .table .now) 0 0 = c .before .wide .ensures in
     let h : c .before .wide .result < args .layout .states = rw z (pre .0 .entry 0) in
     omega (arith, put-fits (args .layout .states) (args .layout .width) 0 (c .before .wide .result) (pre .0 .layout .laid .sized) (pow-pos (args .layout .width)) h)
 
 up-requires : tie.Need-up-requires
 up-requires c κs =
-    let args = c .before .before .before .before .before .before .args in
-    let pre = c .before .before .before .before .before .before .pre in
+    let args = c .before .before .before .before .before .before .before .args in
+    let pre = c .before .before .before .before .before .before .before .pre in
     let z : c .before .wide .result ≡ getD (args .table .now) 0 0 = c .before .wide .ensures in
     let h : c .before .wide .result < args .layout .states = rw z (pre .0 .entry 0) in
     put-fits (args .layout .states) (args .layout .width) (args .layout .ones) (c .before .wide .result) (pre .0 .layout .laid .sized) (ones-less (args .layout .width) (args .layout .ones) (pre .0 .layout .laid .lane)) h
 
 returns : tie.Need-returns
-returns c = rw (eq-eqb (c .before .before .before .before .before .before .before .args .symbol .0) 0 (c .before .before .before .before .if1 .taken)) (c .up .ensures ∙ rw (c .before .before .wide .ensures))
+returns c = rw (eq-eqb (c .before .before .before .before .before .before .before .before .args .symbol .0) 0 (c .before .before .before .before .if1 .taken)) (c .up .ensures ∙ rw (c .before .before .wide .ensures))
 
 place-requires : tie.Need-place-requires
 place-requires c κs = search needs
@@ -43,20 +43,20 @@ sub-start c = search needs
 
 mul-start : tie.Need-mul-start
 mul-start c =
-    let args = c .before .before .before .before .args in
-    let pre = c .before .before .before .before .pre in
+    let args = c .before .before .before .before .before .args in
+    let pre = c .before .before .before .before .before .pre in
     omega (arith, small-prod (c .place .result - 1) (args .layout .states) (omega (arith, c .place .ensures, pre .0 .small)) (omega (arith, square-small (args .layout .states) (pre .0 .layout .few))))
 
 mul-start-2 : tie.Need-mul-start-2
 mul-start-2 c =
-    let args = c .before .before .before .before .args in
-    let pre = c .before .before .before .before .pre in
+    let args = c .before .before .before .before .before .args in
+    let pre = c .before .before .before .before .before .pre in
     omega (arith, small-prod (c .place .result - 1) (args .layout .states) (omega (arith, c .place .ensures, pre .0 .small)) (omega (arith, square-small (args .layout .states) (pre .0 .layout .few))))
 
 add-start : tie.Need-add-start
 add-start c =
-    let args = c .before .before .before .before .args in
-    let pre = c .before .before .before .before .pre in
+    let args = c .before .before .before .before .before .args in
+    let pre = c .before .before .before .before .before .pre in
     omega (arith, small-prod (c .place .result - 1) (args .layout .states) (omega (arith, c .place .ensures, pre .0 .small)) (omega (arith, square-small (args .layout .states) (pre .0 .layout .few))))
 
 place-requires-2 : tie.Need-place-requires-2
@@ -65,9 +65,9 @@ place-requires-2 c κs = search needs
 mul-symbol-word : tie.Need-mul-symbol-word
 mul-symbol-word c = search needs
 
-element-copy-out-symbol-word : tie.Need-element-copy-out-symbol-word
-element-copy-out-symbol-word c = let h = c .before .before .before .before .before .pre .1 (omega arith) in
-    omega (arith, c .place2 .ensures)
+shared-slice-read-symbol-word : tie.Need-shared-slice-read-symbol-word
+shared-slice-read-symbol-word c = let h = c .before .before .before .before .before .before .before .pre .1 (omega arith) in
+    omega (arith, c .before .place2 .ensures)
 
 place-requires-3 : tie.Need-place-requires-3
 place-requires-3 c κs = search needs
@@ -75,18 +75,18 @@ place-requires-3 c κs = search needs
 mul-symbol-word-2 : tie.Need-mul-symbol-word-2
 mul-symbol-word-2 c = search needs
 
-element-copy-out-symbol-word-2 : tie.Need-element-copy-out-symbol-word-2
-element-copy-out-symbol-word-2 c = let h = c .before .before .before .before .before .before .before .pre .1 (omega arith) in
-    omega (arith, c .place3 .ensures)
+shared-slice-read-symbol-word-2 : tie.Need-shared-slice-read-symbol-word-2
+shared-slice-read-symbol-word-2 c = let h = c .before .before .before .before .before .before .before .before .before .pre .1 (omega arith) in
+    omega (arith, c .before .place3 .ensures)
 
 symbol-word-requires : tie.Need-symbol-word-requires
 symbol-word-requires c κs =
-    let pre = c .before .before .before .before .before .before .before .before .pre in
-    let e : c .before .before .before .before .place .result ≡ c .before .before .before .before .before .before .before .before .args .symbol .0 = c .before .before .before .before .place .ensures in
+    let pre = c .before .before .before .before .before .before .before .before .before .pre in
+    let e : c .before .before .before .before .place .result ≡ c .before .before .before .before .before .before .before .before .before .args .symbol .0 = c .before .before .before .before .place .ensures in
     (pre .0 .layout .laid .sized, record { inside = rw e (pre .0 .room (omega arith)); states = λ k h. pre .0 .entry k }, pre .0 .layout .laid .lane)
 
 returns-2 : tie.Need-returns-2
-returns-2 c = rw (ne-eqb (c .before .before .before .before .before .before .before .before .before .args .symbol .0) 0 (c .before .before .before .before .before .before .if1 .left)) (c .symbol-word .ensures ∙ rw (c .before .before .before .before .before .place .ensures, c .before .before .before .before .place2 .ensures, c .before .before .place3 .ensures))
+returns-2 c = rw (ne-eqb (c .before .before .before .before .before .before .before .before .before .before .args .symbol .0) 0 (c .before .before .before .before .before .before .if1 .left)) (c .symbol-word .ensures ∙ rw (c .before .before .before .before .before .place .ensures, c .before .before .before .before .place2 .ensures, c .before .before .place3 .ensures))
 
 pub output-word-spec : {M : Type 1} → statement M
 output-word-spec =
@@ -104,9 +104,9 @@ output-word-spec =
     add-start
     place-requires-2
     mul-symbol-word
-    element-copy-out-symbol-word
+    shared-slice-read-symbol-word
     place-requires-3
     mul-symbol-word-2
-    element-copy-out-symbol-word-2
+    shared-slice-read-symbol-word-2
     symbol-word-requires
     returns-2)

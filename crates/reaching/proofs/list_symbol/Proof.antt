@@ -1,48 +1,71 @@
--- The marks are those of the rules, then closed, then listed; what is called says so of each.
-use mathlib.Core.Path.{_≡_}
-use Prim.Native.Nat.{ℕ}
+-- A symbol without rules has nothing to list.
+use mathlib.Core.Path.{sym, _∙_}
+use Prim.Native.Nat.{_+_}
 use native.Mathlib.Omega.{arith}
-use lib.ListN.{length-replicate}
+use lib.ListN.{getD}
 use borrow.Author.Needs.{needs}
-use Rattle.reaching.specs.Listing.{symbol-listed}
+use borrow.Author.Tests.{ltb-false}
+use Rattle.model.specs.Tables
+use Rattle.reaching.specs.Listing.{none-listed}
 use Rattle.reaching.proofs.list_symbol.Statement.{statement}
 use Rattle.reaching.proofs.list_symbol.Tie as tie
 
-no-marks-requires : tie.Need-no-marks-requires
-no-marks-requires c κs = search needs
+has-rules-requires : tie.Need-has-rules-requires
+has-rules-requires c κs = search needs
 
-mark-rules-requires : tie.Need-mark-rules-requires
-mark-rules-requires c κs =
-    let pre = c .before .before .before .before .before .pre in
-    (λ r l. omega (arith, pre .1 .node r l, pre .0 .few), rw (c .before .no-marks .ensures) (length-replicate {A = ℕ} 256 0))
+few-marks-requires : tie.Need-few-marks-requires
+few-marks-requires c κs = search needs
 
-mark-all-referred-requires : tie.Need-mark-all-referred-requires
-mark-all-referred-requires c κs = search needs
+slice-aggregate-list-reached : tie.Need-slice-aggregate-list-reached
+slice-aggregate-list-reached c = search needs
 
-place-requires : tie.Need-place-requires
-place-requires c κs = search needs
+list-reached-requires : tie.Need-list-reached-requires
+list-reached-requires c κs = search needs
 
-mul-list-marked : tie.Need-mul-list-marked
-mul-list-marked c = search needs
-
-list-marked-requires : tie.Need-list-marked-requires
-list-marked-requires c κs = search needs
+same-length : tie.Need-same-length
+same-length c = search needs
 
 returns : tie.Need-returns
-returns c =
-    let args = c .before .before .before .before .before .before .before .before .before .before .before .before .args in
-    let pre = c .before .before .before .before .before .before .before .before .before .before .before .before .pre in
-    let e : c .before .place .result ≡ args .symbol .0 = c .before .place .ensures in
-    symbol-listed _ _ _ (args .symbol .0) _ _ _ _ _ _ (pre .0) (pre .1) (rw e) (c .before .before .before .before .before .before .mark-rules .ensures) (c .before .before .before .before .mark-all-referred .ensures) (c .list-marked .ensures)
+returns c = search needs
+
+most-marks-requires : tie.Need-most-marks-requires
+most-marks-requires c κs = search needs
+
+slice-aggregate-list-reached-2 : tie.Need-slice-aggregate-list-reached-2
+slice-aggregate-list-reached-2 c = search needs
+
+list-reached-requires-2 : tie.Need-list-reached-requires-2
+list-reached-requires-2 c κs = search needs
+
+same-length-2 : tie.Need-same-length-2
+same-length-2 c = search needs
+
+returns-2 : tie.Need-returns-2
+returns-2 c = search needs
+
+same-length-3 : tie.Need-same-length-3
+same-length-3 c = search needs
+
+returns-3 : tie.Need-returns-3
+returns-3 c =
+    let pre = c .before .before .before .before .before .before .before .pre in
+    none-listed _ _ _ (c .before .before .before .before .before .before .before .args .symbol .0) (c .before .before .before .before .before .before .before .args .start) _ (pre .3) (pre .2)
+    (λ l. omega (arith, ltb-false (getD (c .before .before .before .before .before .before .before .args .lists .now) (32 + c .before .before .before .before .before .before .before .args .symbol .0) 0) (Tables.ruleCount (c .before .before .before .before .before .before .before .args .rules .now)) (sym (c .before .has-rules .ensures) ∙ c .if1 .left)))
 
 pub list-symbol-spec : {M : Type 1} → statement M
 list-symbol-spec =
     tie.close
     (tie.spec
-    no-marks-requires
-    mark-rules-requires
-    mark-all-referred-requires
-    place-requires
-    mul-list-marked
-    list-marked-requires
-    returns)
+    has-rules-requires
+    few-marks-requires
+    slice-aggregate-list-reached
+    list-reached-requires
+    same-length
+    returns
+    most-marks-requires
+    slice-aggregate-list-reached-2
+    list-reached-requires-2
+    same-length-2
+    returns-2
+    same-length-3
+    returns-3)

@@ -11,8 +11,11 @@ place-requires c κs = search needs
 mul-marks : tie.Need-mul-marks
 mul-marks c = search needs
 
-element-write-marks : tie.Need-element-write-marks
-element-write-marks c = let h = c .before .before .pre (c .before .if1 .taken) in omega (arith, c .place .ensures)
+slice-write-marks : tie.Need-slice-write-marks
+slice-write-marks c = rw (c .place .ensures) (c .before .before .before .pre (c .before .if1 .taken))
+
+same-length : tie.Need-same-length
+same-length c = search needs
 
 returns : tie.Need-returns
 unfolding markedIf
@@ -23,4 +26,4 @@ unfolding markedIf
 returns-2 c = rw (c .if1 .left)
 
 pub mark-spec : {M : Type 1} → statement M
-mark-spec = tie.close (tie.spec place-requires mul-marks element-write-marks returns returns-2)
+mark-spec = tie.close (tie.spec place-requires mul-marks slice-write-marks same-length returns returns-2)

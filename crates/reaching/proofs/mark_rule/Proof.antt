@@ -9,10 +9,13 @@ rule-at-requires : tie.Need-rule-at-requires
 rule-at-requires c κs = search needs
 
 mark-requires : tie.Need-mark-requires
-mark-requires c κs = λ e. rw (ap (λ (x : Tables.Rule). x .node) (c .before .before .before .rule-at .ensures)) (c .before .before .before .before .before .pre .1)
+mark-requires c κs = λ e. rw (ap (λ (x : Tables.Rule). x .node) (c .before .rule-at .ensures)) (c .before .before .before .before .pre .1)
+
+same-length : tie.Need-same-length
+same-length c = search needs
 
 returns : tie.Need-returns
-returns c = c .mark .ensures ∙ rw (ap (λ (x : Tables.Rule). x .node) (c .before .before .before .before .rule-at .ensures), ap (λ (x : Tables.Rule). x .symbol) (c .before .before .before .before .rule-at .ensures))
+returns c = c .before .before .mark .ensures ∙ rw (ap (λ (x : Tables.Rule). x .node) (c .before .before .before .before .rule-at .ensures))
 
 pub mark-rule-spec : {M : Type 1} → statement M
-mark-rule-spec = tie.close (tie.spec rule-at-requires mark-requires returns)
+mark-rule-spec = tie.close (tie.spec rule-at-requires mark-requires same-length returns)

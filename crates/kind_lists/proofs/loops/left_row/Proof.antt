@@ -11,15 +11,15 @@ use Rattle.kind_lists.proofs.loops.left_row.Tie as tie
 
 marked-requires : tie.Need-marked-requires
 marked-requires c κs =
-    (row-room (c .before .before .before .before .before .before .before .before .before .pre .1) (c .before .before .before .before .before .before .before .before .before .args .left) (c .before .before .before .before .before .before .before .before .before .pre .3) .1, omega (arith, c .before .before .before .before .before .before .before .before .before .pre .2, c .before .before .before .before .before .before .before .before .before .pre .0 .prepared .established .symbols .≤most))
+    (row-room (c .before .before .before .before .before .before .before .before .before .before .pre .1) (c .before .before .before .before .before .before .before .before .before .before .args .left) (c .before .before .before .before .before .before .before .before .before .before .pre .3) .1, omega (arith, c .before .before .before .before .before .before .before .before .before .before .pre .2, c .before .before .before .before .before .before .before .before .before .before .pre .0 .prepared .established .symbols .≤most))
 
 first-right-requires : tie.Need-first-right-requires
 first-right-requires c κs = search needs
 
 right-rows-requires : tie.Need-right-rows-requires
 right-rows-requires c κs =
-    let (begun, inside) = begin-right refl (c .before .before .before .before .before .before .before .before .before .before .before .before .before .before .before .pre .2) (c .before .before .before .before .before .before .before .before .before .before .before .before .before .before .before .pre .3) (c .before .before .before .first-right .result) (c .before .before .before .first-right .ensures) (c .before .before .before .before .before .before .before .before .before .before .before .before .before .before .before .pre .1) in
-    (c .before .before .before .before .before .before .before .before .before .before .before .before .before .before .before .pre .0, begun, c .before .before .before .before .before .before .before .before .before .before .before .before .before .before .before .pre .2, c .before .before .before .before .before .before .before .before .before .before .before .before .before .before .before .pre .3, inside)
+    let (begun, inside) = begin-right refl (c .before .before .before .before .before .before .before .before .before .before .before .before .before .before .before .before .pre .2) (c .before .before .before .before .before .before .before .before .before .before .before .before .before .before .before .before .pre .3) (c .before .before .before .first-right .result) (c .before .before .before .first-right .ensures) (c .before .before .before .before .before .before .before .before .before .before .before .before .before .before .before .before .pre .1) in
+    (c .before .before .before .before .before .before .before .before .before .before .before .before .before .before .before .before .pre .0, begun, c .before .before .before .before .before .before .before .before .before .before .before .before .before .before .before .before .pre .2, c .before .before .before .before .before .before .before .before .before .before .before .before .before .before .before .before .pre .3, inside)
 
 same-length : tie.Need-same-length
 same-length c = search needs
@@ -31,7 +31,7 @@ returns : tie.Need-returns
 returns c = then-left _ _ _ _ _ _ _ _ _ _ _ refl (c .before .before .before .before .right-rows .result) (c .before .before .before .before .right-rows .ensures)
 
 returns-2 : tie.Need-returns-2
-returns-2 c = pass-left _ (c .before .before .before .before .before .before .before .before .before .before .before .pre .1) refl (c .before .before .before .before .before .before .before .before .before .before .before .pre .2) (c .before .before .before .before .before .before .before .before .before .before .before .pre .3) (sym (c .before .marked .ensures) ∙ c .if1 .left)
+returns-2 c = pass-left _ (c .before .before .before .before .before .before .before .before .before .before .before .before .pre .1) refl (c .before .before .before .before .before .before .before .before .before .before .before .before .pre .2) (c .before .before .before .before .before .before .before .before .before .before .before .before .pre .3) (sym (c .before .marked .ensures) ∙ c .if1 .left)
 
 pub left-row-spec : {M : Type 1} → statement M
 left-row-spec =

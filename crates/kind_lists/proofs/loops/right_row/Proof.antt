@@ -9,7 +9,7 @@ use Rattle.kind_lists.proofs.loops.right_row.Tie as tie
 
 marked-requires : tie.Need-marked-requires
 marked-requires c κs =
-    (row-room (c .before .before .before .before .before .before .before .before .before .pre .1) (c .before .before .before .before .before .before .before .before .before .args .right) (c .before .before .before .before .before .before .before .before .before .pre .4) .1, omega (arith, c .before .before .before .before .before .before .before .before .before .pre .2, c .before .before .before .before .before .before .before .before .before .pre .0 .prepared .established .symbols .≤most))
+    (row-room (c .before .before .before .before .before .before .before .before .before .before .pre .1) (c .before .before .before .before .before .before .before .before .before .before .args .right) (c .before .before .before .before .before .before .before .before .before .before .pre .4) .1, omega (arith, c .before .before .before .before .before .before .before .before .before .before .pre .2, c .before .before .before .before .before .before .before .before .before .before .pre .0 .prepared .established .symbols .≤most))
 
 visit-pair-requires : tie.Need-visit-pair-requires
 visit-pair-requires c κs = search needs
@@ -24,7 +24,7 @@ returns : tie.Need-returns
 returns c = search needs
 
 returns-2 : tie.Need-returns-2
-returns-2 c = pass-right _ (c .before .before .before .before .before .before .before .before .before .before .before .pre .1) (c .before .before .before .before .before .before .before .before .before .before .before .pre .2) (c .before .before .before .before .before .before .before .before .before .before .before .pre .3) (c .before .before .before .before .before .before .before .before .before .before .before .pre .4) (sym (c .before .marked .ensures) ∙ c .if1 .left)
+returns-2 c = pass-right _ (c .before .before .before .before .before .before .before .before .before .before .before .before .pre .1) (c .before .before .before .before .before .before .before .before .before .before .before .before .pre .2) (c .before .before .before .before .before .before .before .before .before .before .before .before .pre .3) (c .before .before .before .before .before .before .before .before .before .before .before .before .pre .4) (sym (c .before .marked .ensures) ∙ c .if1 .left)
 
 pub right-row-spec : {M : Type 1} → statement M
 right-row-spec =

@@ -1,0 +1,2 @@
+-- Chains as the code makes them, number by number.
+pub mod Chaining
