@@ -1,5 +1,5 @@
 -- Runs of bytes stored one behind another, as far as there is room.
-use mathlib.Core.Path.{_≡_, refl, ap, sym, _∙_}
+use mathlib.Core.Path.{_≡_, refl, ap, sym, subst, _∙_}
 use mathlib.Core.Bool.{Bool, true, false}
 use mathlib.Core.List.{List, [], _∷_, _++_}
 use Prim.Native.Nat.{ℕ, zero, suc, _+_, _-_, _≤_, _<_, min}
@@ -8,23 +8,58 @@ use lib.Dec.{ltb}
 use borrow.Author.Tests.{ltb-true, ltb-false}
 use native.Mathlib.Numerals.{add-one}
 use native.Mathlib.Omega.{arith}
-use lib.ListN.{length, getD, take, drop, set, length-set, length-drop}
+use lib.ListN.{length, getD, take, drop, set, length-set, length-drop, length-append}
 use lib.Seq.{take-suc, set-out, sets, length-sets, length-take-le, take-all}
 use Rattle.printing.specs.Appending.{placeAfter}
 
--- a store behind the end is none
-set-clipped : (l : List ℕ) (p b : ℕ) → set l (min p (length l)) b ≡ set l p b
-set-clipped l p b = go (ltb p (length l)) refl
+sets-out : (l vs : List ℕ) (at : ℕ) → length l ≤ at → sets l at vs ≡ l
+sets-out l [] at h = refl
+sets-out l (v ∷ vs) at h =
+    sets-out (set l at v) vs (suc at) (rw (length-set l at v) (omega arith))
+    ∙ set-out l at v h
+
+-- a text stored behind the end is none
+sets-clipped : (l vs : List ℕ) (p : ℕ) → sets l (min p (length l)) vs ≡ sets l p vs
+sets-clipped l vs p = go (ltb p (length l)) refl
   where
-    go : (t : Bool) → ltb p (length l) ≡ t → set l (min p (length l)) b ≡ set l p b
-    go true e = ap (λ (n : ℕ). set l n b) (let h : p < length l = ltb-true _ _ e in omega arith)
+    go : (t : Bool) → ltb p (length l) ≡ t → sets l (min p (length l)) vs ≡ sets l p vs
+    go true e = ap (λ (n : ℕ). sets l n vs) (let h : p < length l = ltb-true _ _ e in omega arith)
     go false e =
         let h : length l ≤ p = ltb-false _ _ e in
-        set-out l (min p (length l)) b (omega arith) ∙ sym (set-out l p b h)
+        sets-out l vs (min p (length l)) (omega arith) ∙ sym (sets-out l vs p h)
 
-sets-last : (l vs : List ℕ) (at b : ℕ) → sets l at (vs ++ (b ∷ [])) ≡ set (sets l at vs) (at + length vs) b
-sets-last l [] at b = ap (λ (n : ℕ). set l n b) (sym (add-zero at))
-sets-last l (v ∷ vs) at b = sets-last (set l at v) vs (suc at) b ∙ ap (λ (n : ℕ). set (sets (set l at v) (suc at) vs) n b) (omega arith)
+sets-append : (l xs ys : List ℕ) (at : ℕ) → sets l at (xs ++ ys) ≡ sets (sets l at xs) (at + length xs) ys
+sets-append l [] ys at = ap (λ (n : ℕ). sets l n ys) (sym (add-zero at))
+sets-append l (x ∷ xs) ys at = sets-append (set l at x) xs ys (suc at) ∙ ap (λ (n : ℕ). sets (sets (set l at x) (suc at) xs) n ys) (omega arith)
+
+-- what appending a text leaves: the place behind it, and the text stored
+abbrev pub Appended : (entry : List ℕ) (at : ℕ) (text : List ℕ) (place : ℕ) (out : List ℕ) → Type 0
+Appended entry at text place out = (place ≡ placeAfter entry at (length text)) × (out ≡ sets entry at text)
+
+pub appended-length : (entry : List ℕ) (at : ℕ) (text : List ℕ) {place : ℕ} {out : List ℕ} → Appended entry at text place out → length out ≡ length entry
+appended-length entry at text a = ap length (a .1) ∙ length-sets entry at text
+
+-- the text of what is known to be something else
+pub appended-of : {A : Type 0} (entry : List ℕ) (at : ℕ) (text : A → List ℕ) {x y : A} {place : ℕ} {out : List ℕ} → x ≡ y
+    → Appended entry at (text y) place out → Appended entry at (text x) place out
+appended-of {A} entry at text {x} {y} {place} {out} e = subst (λ (z : A). Appended entry at (text z) place out) (sym e)
+
+-- a text behind a text
+pub appended-both : (entry : List ℕ) (at : ℕ) (xs ys : List ℕ) {p q : ℕ} {mid out : List ℕ} → Appended entry at xs p mid → Appended mid p ys q out
+    → Appended entry at (xs ++ ys) q out
+appended-both entry at xs ys {p} {q} {mid} {out} first second =
+    let l : length mid ≡ length entry = appended-length entry at xs first in
+    let e : p ≡ min (at + length xs) (length entry) = first .0 in
+    let same : p ≡ min (at + length xs) (length mid) = omega arith in
+    let k : length (xs ++ ys) ≡ length xs + length ys = length-append xs ys in
+    let r : q ≡ min (p + length ys) (length mid) = second .0 in (
+      omega arith,
+      second .1
+          ∙ ap (λ (n : ℕ). sets mid n ys) same
+          ∙ sets-clipped mid ys (at + length xs)
+          ∙ ap (λ (l : List ℕ). sets l (at + length xs) ys) (first .1)
+          ∙ sym (sets-append entry xs ys at),
+    )
 
 -- some of the bytes are stored, up to a place
 pub record Run (entry : List ℕ) (at : ℕ) (bytes out : List ℕ) (place i : ℕ) : Type 0 where
@@ -51,10 +86,10 @@ module _ {entry : List ℕ} {at : ℕ} {bytes out : List ℕ} {place i : ℕ} (r
         stored =
             e
             ∙ ap (λ (n : ℕ). set out n b) same
-            ∙ set-clipped out (at + i) b
+            ∙ sets-clipped out (b ∷ []) (at + i)
             ∙ ap (λ (x : List ℕ). set x (at + i) b) (r .stored)
             ∙ ap (λ (n : ℕ). set (sets entry at (take i bytes)) (at + n) b) (sym (length-take-le i bytes (r .within)))
-            ∙ sym (sets-last entry (take i bytes) at b)
+            ∙ sym (sets-append entry (take i bytes) (b ∷ []) at)
             ∙ ap (sets entry at) (sym (ap (λ (n : ℕ). take n bytes) (add-one i) ∙ take-suc bytes i 0 h));
       }
 

@@ -20,7 +20,7 @@ pub fn append_byte(out: &mut [u8], at: usize, b: u8) -> usize
 }
 
 // A place, or the end where it lies behind that.
-fn clipped(at: usize, end: usize) -> usize
+pub fn clipped(at: usize, end: usize) -> usize
     ensures { λ r. ⌜ r ≡ min at end ⌝ }
 {
     if at < end { at } else { end }

@@ -1,0 +1,4 @@
+-- Laws that the functions' proofs cite.
+pub mod Listings
+pub mod Parts
+pub mod Writings

@@ -1,0 +1,3 @@
+-- What the texts of this crate are made from.
+pub mod Answers
+pub mod Help

@@ -1,0 +1,106 @@
+// An answer of any of the five operations, in document 01's numbers.
+ghost use mathlib.Core.Path.{_≡_};
+ghost use Rattle.answers.specs.Numbers.{contractRefusal, documentRefusal, admissionAnswer, judgingAnswer, checkingAnswer, runningAnswer, writingAnswer};
+ghost use Rattle.lines.specs.Answers.{numbered};
+use answers::AdmissionAnswer;
+use answers::CheckingAnswer;
+use answers::ContractFault;
+use answers::DocumentFault;
+use answers::JudgingAnswer;
+use answers::RunningAnswer;
+use answers::WritingAnswer;
+
+// The cases of the model's answer, with their values.
+pub enum Answer {
+    Admitted,
+    Judged(usize),
+    Tree(usize),
+    Pass(usize),
+    Ran(usize, usize),
+    Written(usize),
+    Refused(usize, usize),
+}
+
+fn of_contract(fault: ContractFault) -> Answer
+    ensures { λ r. ⌜ numbered r ≡ contractRefusal fault ⌝ }
+{
+    match fault {
+        ContractFault::Size(place) => Answer::Refused(1, place),
+        ContractFault::Length(place) => Answer::Refused(2, place),
+        ContractFault::InputRow(row) => Answer::Refused(3, row),
+        ContractFault::Entry(index) => Answer::Refused(4, index),
+        ContractFault::Count(procedure) => Answer::Refused(5, procedure),
+        ContractFault::Node(node) => Answer::Refused(6, node),
+        ContractFault::Rule(rule) => Answer::Refused(7, rule),
+        ContractFault::Facts(total) => Answer::Refused(8, total),
+    }
+}
+
+fn of_document(fault: DocumentFault) -> Answer
+    ensures { λ r. ⌜ numbered r ≡ documentRefusal fault ⌝ }
+{
+    match fault {
+        DocumentFault::Length(numbers) => Answer::Refused(11, numbers),
+        DocumentFault::Number(place) => Answer::Refused(12, place),
+    }
+}
+
+pub fn of_admission(answer: AdmissionAnswer) -> Answer
+    ensures { λ r. ⌜ numbered r ≡ admissionAnswer answer ⌝ }
+{
+    match answer {
+        AdmissionAnswer::Admitted => Answer::Admitted,
+        AdmissionAnswer::Refused(fault) => of_contract(fault),
+    }
+}
+
+pub fn of_judging(answer: JudgingAnswer) -> Answer
+    ensures { λ r. ⌜ numbered r ≡ judgingAnswer answer ⌝ }
+{
+    match answer {
+        JudgingAnswer::Contract(fault) => of_contract(fault),
+        JudgingAnswer::Buffer => Answer::Refused(9, 0),
+        JudgingAnswer::Document(fault) => of_document(fault),
+        JudgingAnswer::Outside => Answer::Judged(0),
+        JudgingAnswer::Sound => Answer::Judged(1),
+        JudgingAnswer::Breaking => Answer::Judged(2),
+    }
+}
+
+pub fn of_checking(answer: CheckingAnswer) -> Answer
+    ensures { λ r. ⌜ numbered r ≡ checkingAnswer answer ⌝ }
+{
+    match answer {
+        CheckingAnswer::Contract(fault) => of_contract(fault),
+        CheckingAnswer::Buffer(place) => Answer::Refused(9, place),
+        CheckingAnswer::Pass(count) => Answer::Pass(count),
+        CheckingAnswer::Tree(row) => Answer::Tree(row),
+        CheckingAnswer::Stopped(limit) => Answer::Refused(10, limit),
+    }
+}
+
+pub fn of_running(answer: RunningAnswer) -> Answer
+    ensures { λ r. ⌜ numbered r ≡ runningAnswer answer ⌝ }
+{
+    match answer {
+        RunningAnswer::Contract(fault) => of_contract(fault),
+        RunningAnswer::Buffer => Answer::Refused(9, 0),
+        RunningAnswer::Document(fault) => of_document(fault),
+        RunningAnswer::NoRule(procedure) => Answer::Refused(13, procedure.0 as usize),
+        RunningAnswer::NoRow(rows) => Answer::Refused(14, rows),
+        RunningAnswer::TooManyCalls => Answer::Refused(15, 65536),
+        RunningAnswer::Ran(root, used) => Answer::Ran(root, used),
+    }
+}
+
+pub fn of_writing(answer: WritingAnswer) -> Answer
+    ensures { λ r. ⌜ numbered r ≡ writingAnswer answer ⌝ }
+{
+    match answer {
+        WritingAnswer::Rows => Answer::Refused(16, 0),
+        WritingAnswer::Row(row) => Answer::Refused(17, row),
+        WritingAnswer::Number(row) => Answer::Refused(18, row),
+        WritingAnswer::Room(numbers) => Answer::Refused(19, numbers),
+        WritingAnswer::Written(count) => Answer::Written(count),
+    }
+}

@@ -1,0 +1,120 @@
+// The texts of answers, put behind text in a lent buffer.
+ghost use mathlib.Core.Path.{_≡_};
+ghost use mathlib.Core.List.{_∷_, _++_};
+ghost use lib.ListN.{length, take};
+ghost use lib.Seq.{sets};
+ghost use Rattle.model.specs.WritingOut.{Written};
+ghost use Rattle.answers.specs.Numbers.{admissionAnswer, judgingAnswer, checkingAnswer, runningAnswer, writingAnswer};
+ghost use Rattle.printing.specs.Decimals.{decimal};
+ghost use Rattle.printing.specs.Appending.{placeAfter};
+ghost use Rattle.script.specs.Meaning.{spaced, answerText, writtenText};
+ghost use Rattle.lines.specs.Answers.{numbered};
+use crate::answer::Answer;
+use crate::answer::of_admission;
+use crate::answer::of_checking;
+use crate::answer::of_judging;
+use crate::answer::of_running;
+use crate::answer::of_writing;
+use crate::lists::append_behind_space;
+use crate::lists::append_numbers;
+use answers::AdmissionAnswer;
+use answers::CheckingAnswer;
+use answers::JudgingAnswer;
+use answers::RunningAnswer;
+use answers::WritingAnswer;
+use printing::appending::append;
+use printing::appending::append_byte;
+use printing::appending::append_decimal;
+use printing::appending::clipped;
+
+// A word and a number.
+pub fn append_one(out: &mut [u8], at: usize, word: &[u8], value: usize) -> usize
+    ensures { λ r. ⌜ r ≡ placeAfter (now (out .entry)) at (length (now (word .entry) ++ decimal value)) ⌝ }
+    ensures { λ _. ⌜ now (out .exit) ≡ sets (now (out .entry)) at (now (word .entry) ++ decimal value) ⌝ }
+{
+    let place = append(out, at, word);
+    append_decimal(out, place, value as u64)
+}
+
+// A word and two numbers.
+fn append_two(out: &mut [u8], at: usize, word: &[u8], first: usize, second: usize) -> usize
+    ensures { λ r. ⌜ r ≡ placeAfter (now (out .entry)) at (length (now (word .entry) ++ decimal first ++ (32 ∷ decimal second))) ⌝ }
+    ensures { λ _. ⌜ now (out .exit) ≡ sets (now (out .entry)) at (now (word .entry) ++ decimal first ++ (32 ∷ decimal second)) ⌝ }
+{
+    let place = append_one(out, at, word, first);
+    append_behind_space(out, place, second as u64)
+}
+
+// An answer.
+fn append_answer(out: &mut [u8], at: usize, answer: Answer) -> usize
+    ensures { λ r. ⌜ r ≡ placeAfter (now (out .entry)) at (length (answerText (numbered answer))) ⌝ }
+    ensures { λ _. ⌜ now (out .exit) ≡ sets (now (out .entry)) at (answerText (numbered answer)) ⌝ }
+{
+    match answer {
+        Answer::Admitted => append(out, at, b"admitted"),
+        Answer::Judged(result) => append_one(out, at, b"judged ", result),
+        Answer::Tree(row) => append_one(out, at, b"tree ", row),
+        Answer::Pass(count) => append_one(out, at, b"pass ", count),
+        Answer::Ran(root, used) => append_two(out, at, b"run ", root, used),
+        Answer::Written(count) => append_one(out, at, b"written ", count),
+        Answer::Refused(number, place) => append_two(out, at, b"refused ", number, place),
+    }
+}
+
+pub fn append_admission(out: &mut [u8], at: usize, answer: AdmissionAnswer) -> usize
+    ensures { λ r. ⌜ r ≡ placeAfter (now (out .entry)) at (length (answerText (admissionAnswer answer))) ⌝ }
+    ensures { λ _. ⌜ now (out .exit) ≡ sets (now (out .entry)) at (answerText (admissionAnswer answer)) ⌝ }
+{
+    let numbered = of_admission(answer);
+    append_answer(out, at, numbered)
+}
+
+pub fn append_judging(out: &mut [u8], at: usize, answer: JudgingAnswer) -> usize
+    ensures { λ r. ⌜ r ≡ placeAfter (now (out .entry)) at (length (answerText (judgingAnswer answer))) ⌝ }
+    ensures { λ _. ⌜ now (out .exit) ≡ sets (now (out .entry)) at (answerText (judgingAnswer answer)) ⌝ }
+{
+    let numbered = of_judging(answer);
+    append_answer(out, at, numbered)
+}
+
+pub fn append_checking(out: &mut [u8], at: usize, answer: CheckingAnswer) -> usize
+    ensures { λ r. ⌜ r ≡ placeAfter (now (out .entry)) at (length (answerText (checkingAnswer answer))) ⌝ }
+    ensures { λ _. ⌜ now (out .exit) ≡ sets (now (out .entry)) at (answerText (checkingAnswer answer)) ⌝ }
+{
+    let numbered = of_checking(answer);
+    append_answer(out, at, numbered)
+}
+
+pub fn append_running(out: &mut [u8], at: usize, answer: RunningAnswer) -> usize
+    ensures { λ r. ⌜ r ≡ placeAfter (now (out .entry)) at (length (answerText (runningAnswer answer))) ⌝ }
+    ensures { λ _. ⌜ now (out .exit) ≡ sets (now (out .entry)) at (answerText (runningAnswer answer)) ⌝ }
+{
+    let numbered = of_running(answer);
+    append_answer(out, at, numbered)
+}
+
+// The first numbers of a list, behind a colon.
+fn append_first(out: &mut [u8], at: usize, count: usize, numbers: &[u16]) -> usize
+    ensures { λ r. ⌜ r ≡ placeAfter (now (out .entry)) at (length (58 ∷ spaced (take count (now (numbers .entry))))) ⌝ }
+    ensures { λ _. ⌜ now (out .exit) ≡ sets (now (out .entry)) at (58 ∷ spaced (take count (now (numbers .entry)))) ⌝ }
+{
+    let end = clipped(count, numbers.len());
+    let place = append_byte(out, at, 58);
+    append_numbers(out, place, &numbers[..end])
+}
+
+// What writing out says, with the numbers that it wrote.
+pub fn append_writing(out: &mut [u8], at: usize, answer: WritingAnswer, numbers: &[u16]) -> usize
+    ensures { λ r. ⌜ r ≡ placeAfter (now (out .entry)) at (length (writtenText (record { answer = writingAnswer answer; numbers = now (numbers .entry) }))) ⌝ }
+    ensures { λ _. ⌜ now (out .exit) ≡ sets (now (out .entry)) at (writtenText (record { answer = writingAnswer answer; numbers = now (numbers .entry) })) ⌝ }
+{
+    let numbered = of_writing(answer);
+    let place = append_answer(out, at, numbered);
+    match answer {
+        WritingAnswer::Rows => place,
+        WritingAnswer::Row(_) => place,
+        WritingAnswer::Number(_) => place,
+        WritingAnswer::Room(_) => place,
+        WritingAnswer::Written(count) => append_first(out, place, count, numbers),
+    }
+}
