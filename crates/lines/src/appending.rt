@@ -46,7 +46,7 @@ fn append_two(out: &mut [u8], at: usize, word: &[u8], first: usize, second: usiz
 }
 
 // An answer.
-fn append_answer(out: &mut [u8], at: usize, answer: Answer) -> usize
+pub fn append_answer(out: &mut [u8], at: usize, answer: Answer) -> usize
     ensures { λ r. ⌜ r ≡ placeAfter (now (out .entry)) at (length (answerText (numbered answer))) ⌝ }
     ensures { λ _. ⌜ now (out .exit) ≡ sets (now (out .entry)) at (answerText (numbered answer)) ⌝ }
 {
