@@ -2,6 +2,7 @@
 //
 // specs/Desks.antt says which state of `script`'s definition the values and buffers here stand for; the promises are
 // equations with that definition's steps.
+pub mod answering;
 pub mod asking;
 pub mod buffers;
 pub mod desks;
