@@ -4,3 +4,4 @@ pub mod StateLaws
 pub mod QuestionLaws
 pub mod LineLaws
 pub mod PlayLaws
+pub mod StatementLaws

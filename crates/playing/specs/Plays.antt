@@ -5,7 +5,11 @@ use mathlib.Core.List.{List}
 use Prim.Native.Nat.{ℕ, _≤_}
 use lib.ListN.{length}
 use Rattle.script.specs.Meaning.{Step}
+use Rattle.script.specs.declared.statements.Statement.{Statement}
+use Rattle.script.specs.declared.statements.Statement.the-variants as statement
+use Rattle.playing.specs.declared.desks.Label.{Label}
 use Rattle.playing.specs.declared.desks.Desk.{Desk}
+use Rattle.playing.specs.declared.statements.Done.{Done}
 use Rattle.playing.specs.declared.showing.Printed.{Printed}
 use Rattle.playing.specs.Desks.{kept, stateOf, InOrder}
 use Rattle.playing.specs.Printed.{printedText, PrintedFits, mostOutput}
@@ -22,3 +26,19 @@ pub record Plays (before after : List ℕ) (s : Step) (d : Desk) (numbers rows w
   pub text : printedText before out p ≡ s .printed
   pub order : InOrder d
   pub fits : PrintedFits p (length out)
+
+-- what stands behind a statement
+abbrev pub done : Label → Desk → Printed → Done
+done l d p = record { label = l; desk = d; printed = p }
+
+-- how many numbers a statement's list has
+abbrev pub countOf : Statement → ℕ
+countOf statement.End = 0
+countOf (statement.Fault f) = 0
+countOf (statement.Case s) = 0
+countOf (statement.Size z n) = 0
+countOf (statement.List l count) = count
+countOf statement.Admit = 0
+countOf (statement.Check limit) = 0
+countOf (statement.Write row room) = 0
+countOf statement.Show = 0

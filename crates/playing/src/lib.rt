@@ -8,4 +8,5 @@ pub mod buffers;
 pub mod desks;
 pub mod questions;
 pub mod showing;
+pub mod statements;
 pub mod whole_lines;
