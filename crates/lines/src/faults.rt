@@ -72,7 +72,7 @@ fn append_found(out: &mut [u8], at: usize, text: &[u8], fault: Fault) -> usize
         Expected::Number => append_standing(out, at, text, span),
         Expected::Name => append_standing(out, at, text, span),
         Expected::End => {
-            let place = append_one(out, at, b"more than ", 2097152);
+            let place = append_one(out, at, b"more than ", 1572864);
             append(out, place, b" bytes")
         }
         Expected::Fewer => append_standing(out, at, text, span),

@@ -1,7 +1,7 @@
 -- Meaning: what a script prints. Its statements are taken one after another; each changes the state and prints its lines.
 use mathlib.Core.Bool.{Bool, true, false, _&&_, _||_, not}
 use mathlib.Core.List.{List, [], _∷_, _++_}
-use Prim.Native.Nat.{ℕ, zero, suc, _*_}
+use Prim.Native.Nat.{ℕ, zero, suc, _+_, _*_, _-_}
 use lib.Dec.{eqb, leb, ltb}
 use lib.ListN.{length, getD, take, set, replicate}
 use Rattle.foundation.specs.Tests.{choose}
@@ -30,9 +30,13 @@ use Rattle.script.specs.declared.statements.Listed.the-variants as liste
 use Rattle.script.specs.declared.statements.Statement.{Statement}
 use Rattle.script.specs.declared.statements.Statement.the-variants as statement
 
--- the most bytes of a script that are read, and of a token that a fault shows
+-- the most bytes of a script that are read, the most numbers of its tables that are kept, and the most bytes of a token
+-- that a fault shows; a number takes a byte and another apart from the next, so half as many numbers as bytes are enough
 abbrev pub mostBytes : ℕ
-mostBytes = 2097152
+mostBytes = 1572864
+
+abbrev pub mostNumbers : ℕ
+mostNumbers = 786432
 
 abbrev pub mostShown : ℕ
 mostShown = 32
@@ -44,17 +48,19 @@ pub data Left : Type 0 where
   words : List ℕ → Left
   both : (rows words : List ℕ) → Left
 
--- the label, the contract's sizes and tables, the current row table, and what was left in the buffers
+-- the label, the contract's sizes and tables, the current row table, what was left in the buffers, and how many numbers the
+-- statements that set a table have had
 pub record State : Type 0 where
   pub label : List ℕ
   pub sizes : List ℕ
   pub tables : List (List ℕ)
   pub rows : List ℕ
   pub left : Left
+  pub used : ℕ
 
 -- at first the label is `-`, the sizes are 0 and the tables empty
 abbrev pub initial : State
-initial = record { label = 45 ∷ []; sizes = replicate 3 0; tables = replicate 7 []; rows = []; left = nothing }
+initial = record { label = 45 ∷ []; sizes = replicate 3 0; tables = replicate 7 []; rows = []; left = nothing; used = 0 }
 
 abbrev pub sizePlace : Size → ℕ
 sizePlace size.Symbols = 0
@@ -79,16 +85,21 @@ contractOf s =
 
 -- the state with another label, size, table, row table or buffers
 abbrev pub withLabel : State → List ℕ → State
-withLabel s label = record { label = label; sizes = s .sizes; tables = s .tables; rows = s .rows; left = s .left }
+withLabel s label = record { label = label; sizes = s .sizes; tables = s .tables; rows = s .rows; left = s .left; used = s .used }
 
 abbrev pub withSize : State → Size → ℕ → State
-withSize s z n = record { label = s .label; sizes = set (s .sizes) (sizePlace z) n; tables = s .tables; rows = s .rows; left = s .left }
+withSize s z n =
+    record { label = s .label; sizes = set (s .sizes) (sizePlace z) n; tables = s .tables; rows = s .rows; left = s .left; used = s .used }
 
 abbrev pub withTable : State → Table → List ℕ → State
-withTable s t l = record { label = s .label; sizes = s .sizes; tables = set (s .tables) (tablePlace t) l; rows = s .rows; left = s .left }
+withTable s t l =
+    record { label = s .label; sizes = s .sizes; tables = set (s .tables) (tablePlace t) l; rows = s .rows; left = s .left; used = s .used + length l }
 
-abbrev pub withRows : State → List ℕ → Left → State
-withRows s current left = record { label = s .label; sizes = s .sizes; tables = s .tables; rows = current; left = left }
+abbrev pub withRows : State → List ℕ → State
+withRows s l = record { label = s .label; sizes = s .sizes; tables = s .tables; rows = l; left = s .left; used = s .used + length l }
+
+abbrev pub withLeft : State → List ℕ → Left → State
+withLeft s current left = record { label = s .label; sizes = s .sizes; tables = s .tables; rows = current; left = left; used = s .used }
 
 -- numbers, each behind a space
 unfoldable pub spaced : List ℕ → List ℕ
@@ -155,13 +166,13 @@ answering state answer next = record { state = next; printed = labelled state (a
 
 module _ (state : State) where
   abbrev pub judgeStep : Judged → Step
-  judgeStep j = answering state (j .answer) (withRows state (state .rows) (words (j .words)))
+  judgeStep j = answering state (j .answer) (withLeft state (state .rows) (words (j .words)))
 
   abbrev pub checkStep : Checked → Step
-  checkStep k = answering state (k .answer) (withRows state (currentRows (k .answer) (k .rows) (state .rows)) (both (k .rows) (k .words)))
+  checkStep k = answering state (k .answer) (withLeft state (currentRows (k .answer) (k .rows) (state .rows)) (both (k .rows) (k .words)))
 
   abbrev pub runStep : Ran → Step
-  runStep r = answering state (r .answer) (withRows state (currentRows (r .answer) (r .rows) (state .rows)) (rows (r .rows)))
+  runStep r = answering state (r .answer) (withLeft state (currentRows (r .answer) (r .rows) (state .rows)) (rows (r .rows)))
 
   -- a statement with the numbers of its list; `text` is where a label stands
   unfoldable pub step : (text : List ℕ) → Statement → List ℕ → Step
@@ -170,7 +181,7 @@ module _ (state : State) where
   step text (statement.Case span) values = quiet (withLabel state (bytesOf text span))
   step text (statement.Size z n) values = quiet (withSize state z n)
   step text (statement.List (listed.Table t) count) values = quiet (withTable state t values)
-  step text (statement.List listed.Rows count) values = quiet (withRows state values (state .left))
+  step text (statement.List listed.Rows count) values = quiet (withRows state values)
   step text (statement.List listed.Judge count) values = judgeStep (judging (contractOf state) values (untouched 5))
   step text (statement.List (listed.Run r) count) values = runStep (running (contractOf state) values (untouched (3 * r)))
   step text statement.Admit values = answering state (admit (contractOf state)) state
@@ -228,7 +239,7 @@ module _ (text : List ℕ) (cut : Bool) where
   -- what is printed from a place on, of at most so many statements
   unfoldable pub played : ℕ → State → ℕ → List ℕ
   played zero state at = []
-  played (suc n) state at = playStep (played n) state (statementAt text cut (length text) at)
+  played (suc n) state at = playStep (played n) state (statementAt text cut (mostNumbers - state .used) at)
 
   -- `help` is the only word
   abbrev pub asksHelp : Bool
