@@ -9,7 +9,7 @@ use Rattle.model.specs.Tables.{contract, markAt}
 use Rattle.model.specs.Facts.{offset}
 use Rattle.model.proofs.Laws.Established.{Established}
 use Rattle.kind_words.specs.Listed.{Layout}
-use Rattle.kind_words.specs.Kind.{Prepared, LayoutFor, ListsFor}
+use Rattle.kind_words.specs.Kind.{LayoutFor, ListsFor}
 use Rattle.kind_lists.specs.Stage.{Stage}
 
 module _ (S I states : ℕ) (counts rows inputMarks table outputMarks nodes rules : List ℕ) (lay : Layout) (offsets lists : List ℕ)

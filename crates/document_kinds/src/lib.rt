@@ -2,7 +2,7 @@
 // recursion.
 ghost use mathlib.Core.Path.{_≡_};
 ghost use Prim.Native.Nat.{ℕ, _+_, _*_, _<_, _≤_};
-ghost use lib.ListN.{length, getD, replicate};
+ghost use lib.ListN.{length, replicate};
 ghost use Rattle.model.specs.Documents.{mostNumbers};
 ghost use Rattle.model.proofs.Laws.Documents.{Readable, treeFrom};
 ghost use Rattle.kind_words.specs.Fits.{Ready};

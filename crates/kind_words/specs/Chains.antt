@@ -1,9 +1,8 @@
 -- The numbers below n in chains, one for each symbol: a table names the first number of each symbol, and after each number the
 -- next one of its symbol. A fold over the chain of a symbol is the fold over all numbers that changes nothing at the others.
-use mathlib.Core.Path.{_≡_, refl, ap, sym, _∙_}
+use mathlib.Core.Path.{_≡_, ap, sym, _∙_}
 use mathlib.Core.List.{List}
 use Prim.Native.Nat.{ℕ, zero, suc, _+_, _<_, _≤_}
-use native.Mathlib.Nat.{not-suc-le-zero}
 use native.Mathlib.Omega.{arith}
 use native.Mathlib.Decide.{ℕ-discrete}
 use lib.ListN.{length, getD, set, length-set}

@@ -8,7 +8,7 @@ use native.Mathlib.Omega.{arith}
 use native.Mathlib.Decide.{ℕ-discrete}
 use borrow.Author.Tests.{eq-eqb, ne-eqb}
 use lib.Pow.{pow-mono, pow-add}
-use lib.ListN.{length, getD, set, replicate, length-replicate}
+use lib.ListN.{length, getD, set, replicate}
 use lib.Bits.{bitOr, or-zero-r}
 use Rattle.foundation.specs.Words.{bit, word, word-cong}
 use Rattle.foundation.specs.TestLaws.{same-yes, same-no}

@@ -1,5 +1,4 @@
 -- Preparation makes of an admitted contract what the rounds work with; its layout has the contract's states.
-use Prim.Native.Nat.{ℕ}
 use native.Mathlib.Omega.{arith}
 use Rattle.layouts.specs.Counts.{small-counts, offsets-inside}
 use Rattle.reaching.specs.Marks.{nodes-good, rules-good, rows-good}

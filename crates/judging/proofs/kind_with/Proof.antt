@@ -1,5 +1,4 @@
 -- Preparation makes of an admitted contract what the kind of a document asks for.
-use Prim.Native.Nat.{ℕ}
 use borrow.Author.Needs.{needs}
 use Rattle.layouts.specs.Counts.{small-counts, offsets-inside}
 use Rattle.reaching.specs.Marks.{nodes-good, rules-good, rows-good}

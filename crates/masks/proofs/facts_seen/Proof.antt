@@ -1,9 +1,9 @@
 -- Invariant: the mask shows the facts that the first i listed nodes call on the side. Measure: the nodes left.
-use mathlib.Core.Path.{_≡_, refl, ap, sym, subst, _∙_}
+use mathlib.Core.Path.{_≡_, ap, sym, subst, _∙_}
 use mathlib.Core.List.{List}
-use Prim.Native.Nat.{ℕ, _+_, _-_, _≤_, _<_}
+use Prim.Native.Nat.{ℕ, _+_, _-_, _≤_}
 use native.Mathlib.Omega.{arith}
-use Rattle.model.specs.Tables.{Contract, contract, Node, nodeAt}
+use Rattle.model.specs.Tables.{Contract, contract, Node}
 use Rattle.kind_words.specs.Kind.{listed, listLength}
 use Rattle.masks.specs.Calls.{CallFits, Shown, withCall, shown-none, shown-more, call-fits}
 use Rattle.masks.proofs.facts_seen.Statement.{statement}

@@ -1,8 +1,8 @@
 -- The list's start and the place on it add up.
 use mathlib.Core.Path.{_≡_, ap, _∙_}
-use Prim.Native.Nat.{ℕ, _+_, _<_}
+use Prim.Native.Nat.{ℕ, _+_}
 use native.Mathlib.Omega.{arith}
-use lib.ListN.{length, getD}
+use lib.ListN.{getD}
 use Rattle.model.specs.Tables
 use borrow.Author.Needs.{needs}
 use Rattle.masks.proofs.listed_node.Statement.{statement}

@@ -1,6 +1,6 @@
 -- Invariant: the lists of the symbols below s. Measure: the symbols left.
-use mathlib.Core.Path.{_≡_, subst, _∙_}
-use Prim.Native.Nat.{ℕ, _-_, _≤_, _<_}
+use mathlib.Core.Path.{_≡_, subst}
+use Prim.Native.Nat.{ℕ, _-_, _≤_}
 use native.Mathlib.Omega.{arith}
 use Rattle.reaching.specs.Listing.{ListedTo, list-room, listed-none, listed-more, rules-kept}
 use Rattle.reaching.proofs.list_nodes.Statement.{statement}

@@ -1,5 +1,4 @@
 -- Both sides of the test.
-use native.Mathlib.Omega.{arith}
 use borrow.Author.Needs.{needs}
 use Rattle.reaching.specs.Marks.{markedIf}
 use Rattle.reaching.proofs.mark.Statement.{statement}
