@@ -5,3 +5,5 @@ pub mod QuestionLaws
 pub mod LineLaws
 pub mod PlayLaws
 pub mod StatementLaws
+pub mod ReadLaws
+pub mod TurnLaws

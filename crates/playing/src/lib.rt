@@ -9,4 +9,5 @@ pub mod desks;
 pub mod questions;
 pub mod showing;
 pub mod statements;
+pub mod turns;
 pub mod whole_lines;
