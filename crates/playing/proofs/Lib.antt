@@ -7,3 +7,4 @@ pub mod PlayLaws
 pub mod StatementLaws
 pub mod ReadLaws
 pub mod TurnLaws
+pub mod HelpLaws

@@ -6,6 +6,7 @@ pub mod answering;
 pub mod asking;
 pub mod buffers;
 pub mod desks;
+pub mod help;
 pub mod questions;
 pub mod showing;
 pub mod statements;
