@@ -37,7 +37,7 @@ pub enum Word {
 }
 
 // Whether two stretches hold the same bytes.
-fn same(a: &[u8], b: &[u8]) -> bool
+pub fn same(a: &[u8], b: &[u8]) -> bool
     ensures { λ r. ⌜ r ≡ sameList (now (a .entry)) (now (b .entry)) ⌝ }
 {
     if a.len() != b.len() {

@@ -5,3 +5,6 @@ pub mod QuestionLaws
 pub mod LineLaws
 pub mod PlayLaws
 pub mod StatementLaws
+pub mod ReadLaws
+pub mod TurnLaws
+pub mod HelpLaws

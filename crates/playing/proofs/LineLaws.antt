@@ -83,7 +83,7 @@ digits-short (suc n) value rest = go (ltb value 10) (digits-short n (value / 10)
     go true h = omega arith
     go false h = omega arith
 
-decimal-short : (value : ℕ) → length (decimal value) ≤ 20
+pub decimal-short : (value : ℕ) → length (decimal value) ≤ 20
 unfolding decimal
 decimal-short value = omega (arith, digits-short 20 value [])
 

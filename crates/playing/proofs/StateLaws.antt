@@ -7,7 +7,7 @@ use native.Mathlib.Nat.{not-suc-le-zero}
 use lib.ListN.{length, take, drop, length-take, length-drop}
 use lib.Seq.{take-take, take-nil, drop-drop, drop-append-add}
 use Rattle.script.specs.Spans.{overwritten}
-use Rattle.script.specs.Meaning.{State, withSize, withTable, withRows, mostNumbers}
+use Rattle.script.specs.Meaning.{State, initial, withSize, withTable, withRows, mostNumbers}
 use Rattle.script.specs.declared.spans.Span.{Span}
 use Rattle.lexing.specs.declared.words.Size.{Size}
 use Rattle.lexing.specs.declared.words.Size.the-variants as size
@@ -15,7 +15,7 @@ use Rattle.lexing.specs.declared.words.Table.{Table}
 use Rattle.lexing.specs.declared.words.Table.the-variants as table
 use Rattle.playing.specs.declared.desks.Tables.{Tables}
 use Rattle.playing.specs.declared.desks.Desk.{Desk}
-use Rattle.playing.specs.Desks.{kept, stretch, span, sizesOf, tablesOf, leftOf, stateOf, tablesWith, deskWithSize, deskWithTable, deskWithRows, Inside, TablesInside, InOrder}
+use Rattle.playing.specs.Desks.{kept, stretch, span, sizesOf, tablesOf, leftOf, stateOf, tablesWith, emptyDesk, deskWithSize, deskWithTable, deskWithRows, Inside, TablesInside, InOrder}
 
 -- two buffers have the same numbers at every span that lies between two places
 abbrev pub Agree : (low high : ℕ) (a b : List ℕ) → Type 0
@@ -143,3 +143,21 @@ module _ (d : Desk) (o : InOrder d) where
           least = omega (arith, o .least);
           most = k;
         }
+
+-- before the first statement
+none-inside : {low : ℕ} → low ≤ kept → Inside low kept (span kept kept)
+none-inside h = record { from = h; ordered = omega arith; upTo = omega arith }
+
+pub empty-order : InOrder emptyDesk
+empty-order =
+    let none : Inside kept kept (span kept kept) = none-inside (omega arith) in
+    record {
+      tables = record { counts = none; inputRows = none; inputMarks = none; outputTable = none; outputMarks = none; nodes = none; rules = none };
+      rows = none-inside (omega arith);
+      left = tt;
+      least = omega arith;
+      most = omega arith;
+    }
+
+pub empty-state : (numbers rows words : List ℕ) → stateOf (45 ∷ []) emptyDesk numbers rows words ≡ initial
+empty-state numbers rows words = refl

@@ -3,3 +3,4 @@ pub mod Desks
 pub mod Questions
 pub mod Printed
 pub mod Plays
+pub mod Turns

@@ -1,0 +1,13 @@
+-- The buffers have the lengths that a turn asks for.
+use borrow.Author.Needs.{needs}
+use Rattle.goosedawn.proofs.next_turn.Statement.{statement}
+use Rattle.goosedawn.proofs.next_turn.Tie as tie
+
+play-turn-requires : tie.Need-play-turn-requires
+play-turn-requires c κs = search needs
+
+returns : tie.Need-returns
+returns c = (c .play-turn .ensures .order, c .play-turn .ensures .fits)
+
+pub next-turn-spec : {M : Type 1} → statement M
+next-turn-spec = tie.close (tie.spec play-turn-requires returns)
