@@ -10,7 +10,7 @@ use Rattle.script.specs.declared.statements.Statement.{Statement}
 use Rattle.script.specs.declared.statements.Statement.the-variants as statement
 use Rattle.playing.specs.declared.desks.Label.{Label}
 use Rattle.playing.specs.declared.turns.Turn.{Turn}
-use Rattle.playing.specs.Desks.{labelOf, stateOf, InOrder}
+use Rattle.playing.specs.Desks.{labelOf, stateOf, LabelFits, InOrder}
 use Rattle.playing.specs.Printed.{printedText, PrintedFits}
 
 -- a script stops at its end and at a fault
@@ -44,4 +44,5 @@ pub record Turns (text : List ℕ) (cut : Bool) (at : ℕ) (label : Label) (befo
       ≡ printedText (labelOf text label) out (t .done .printed)
       ++ choose (t .«goes_on») (played text cut n (stateOf (labelOf text (t .done .label)) (t .done .desk) numbers rows words) (t .next)) []
   pub order : InOrder (t .done .desk)
+  pub labelled : LabelFits (t .done .label) (length text)
   pub fits : PrintedFits (t .done .printed) (length out)
