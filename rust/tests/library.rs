@@ -99,6 +99,12 @@ fn worked_example() {
 }
 
 #[test]
+fn every_answer() {
+    let script = include_bytes!("../../examples/answers.script");
+    assert_eq!(play(&Library::default(), script), include_str!("../../examples/answers.answers"));
+}
+
+#[test]
 fn sizes_and_row_numbers_of_every_width() {
     let library = Library::default();
     for size in [17, 65_536, 1 << 32, (1 << 32) + 1, usize::MAX] {

@@ -1,4 +1,4 @@
-//! The worked example, and what a script with a fault prints.
+//! The worked example, the script of every answer, and what a script with a fault prints.
 
 use goosedawn::model::Model;
 use goosedawn::script::{play, HELP, MOST_BYTES};
@@ -7,6 +7,12 @@ use goosedawn::script::{play, HELP, MOST_BYTES};
 fn worked_example() {
     let script = include_bytes!("../../examples/worked.script");
     assert_eq!(play(&Model, script), include_str!("../../examples/worked.answers"));
+}
+
+#[test]
+fn every_answer() {
+    let script = include_bytes!("../../examples/answers.script");
+    assert_eq!(play(&Model, script), include_str!("../../examples/answers.answers"));
 }
 
 fn says(script: &str, said: &str) {

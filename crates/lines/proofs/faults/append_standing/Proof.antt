@@ -2,7 +2,6 @@
 -- shown lies within the script.
 use mathlib.Core.Bool.{Bool}
 use native.Mathlib.Omega.{arith}
-use lib.ListN.{length}
 use borrow.Author.Tests.{le-leb, lt-leb}
 use Rattle.foundation.specs.Tests.{choose}
 use Rattle.printing.proofs.Runs.{appended-of}

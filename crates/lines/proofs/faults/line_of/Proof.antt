@@ -2,10 +2,10 @@
 use lib.Seq.{length-take-le}
 -- bytes.
 use mathlib.Core.Path.{_≡_, sym, ap, _∙_}
-use Prim.Native.Nat.{ℕ, suc, _≤_}
+use Prim.Native.Nat.{suc}
 use native.Mathlib.Omega.{arith}
 use native.Mathlib.Numerals.{add-one}
-use lib.ListN.{take, length, length-take}
+use lib.ListN.{take, length-take}
 use Rattle.lexing.specs.Text.{newlines}
 use Rattle.lines.proofs.Parts.{take-clipped, newlines-most}
 use borrow.Author.Needs.{needs}

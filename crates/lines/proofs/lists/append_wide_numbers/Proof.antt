@@ -3,7 +3,6 @@ use mathlib.Core.Path.{refl}
 use Prim.Native.Nat.{_-_}
 use native.Mathlib.Omega.{arith}
 use lib.ListN.{length}
-use borrow.Author.Needs.{needs}
 use Rattle.lines.proofs.Listings.{Listed, listed-start, listed-length, listed-more, listed-end}
 use Rattle.lines.proofs.lists.append_wide_numbers.Statement.{statement}
 use Rattle.lines.proofs.lists.append_wide_numbers.Tie as tie
