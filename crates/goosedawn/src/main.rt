@@ -5,7 +5,7 @@
 ghost use mathlib.Core.Path.{_≡_};
 ghost use lib.ListN.{length};
 ghost use Rattle.script.specs.Meaning.{mostBytes};
-ghost use Rattle.playing.specs.Desks.{InOrder};
+ghost use Rattle.playing.specs.Desks.{LabelFits, InOrder};
 ghost use Rattle.playing.specs.Printed.{PrintedFits};
 use libc::STDOUT_FILENO;
 use lines::help::append_help;
@@ -60,32 +60,29 @@ fn next_turn(
     tree: &mut [u16; 65535],
     out: &mut [u8; 1441792],
 ) -> Turn
-    requires { ⌜ InOrder desk ⌝ }
-    ensures { λ r. ⌜ InOrder (r .done .desk) × PrintedFits (r .done .printed) (length (now (out .exit))) ⌝ }
+    requires { ⌜ InOrder desk × LabelFits label (length (now text)) ⌝ }
+    ensures { λ r. ⌜ InOrder (r .done .desk) × LabelFits (r .done .label) (length (now (text .entry))) × PrintedFits (r .done .printed) (length (now (out .exit))) ⌝ }
 {
     play_turn(text, cut, at, label, desk, numbers, rows, words, tree, out)
 }
 
 // Writes the label of a line.
-fn print_label(text: &[u8], label: Label) -> bool {
+fn print_label(text: &[u8], label: Label) -> bool
+    requires { ⌜ LabelFits label (length (now text)) ⌝ }
+{
     match label {
         Label::Dash => io::write_all(STDOUT_FILENO, b"-"),
         Label::Token(name) => {
             let start = name.start;
             let end = name.end;
-            if start <= end {
-                if end <= text.len() {
-                    return io::write_all(STDOUT_FILENO, &text[start..end]);
-                }
-            }
-            false
+            io::write_all(STDOUT_FILENO, &text[start..end])
         }
     }
 }
 
 // Writes what a turn printed.
 fn print(text: &[u8], label: Label, printed: Printed, out: &[u8]) -> bool
-    requires { ⌜ PrintedFits printed (length (now out)) ⌝ }
+    requires { ⌜ LabelFits label (length (now text)) × PrintedFits printed (length (now out)) ⌝ }
 {
     match printed {
         Printed::Nothing => true,
@@ -105,7 +102,7 @@ fn print(text: &[u8], label: Label, printed: Printed, out: &[u8]) -> bool
 
 // The same from a buffer of this size.
 fn print_turn(text: &[u8], label: Label, printed: Printed, out: &[u8; 1441792]) -> bool
-    requires { ⌜ PrintedFits printed (length (now out)) ⌝ }
+    requires { ⌜ LabelFits label (length (now text)) × PrintedFits printed (length (now out)) ⌝ }
 {
     print(text, label, printed, out)
 }

@@ -8,3 +8,4 @@ pub mod StatementLaws
 pub mod ReadLaws
 pub mod TurnLaws
 pub mod HelpLaws
+pub mod RunLaws

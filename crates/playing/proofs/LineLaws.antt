@@ -5,12 +5,11 @@ use mathlib.Core.List.{List, [], _∷_, _++_, append-assoc}
 use Prim.Native.Nat.{ℕ, zero, suc, _+_, _*_, _-_, _/_, _%_, _≤_, _<_, min}
 use native.Mathlib.Omega.{arith}
 use lib.Dec.{ltb}
-use lib.ListN.{length, getD, take, drop, length-append, length-take, length-replicate, getD-replicate}
-use lib.Seq.{sets, sets-eq, length-sets, take-at, drop-at}
+use lib.ListN.{length, take, drop, length-append, length-take, length-replicate, getD-replicate}
+use lib.Seq.{sets-eq, length-sets, take-at, drop-at}
 use Rattle.foundation.specs.Tests.{choose}
 use Rattle.model.specs.Answers.{Answer, admitted, judged, tree, pass, ran, written, refusal}
 use Rattle.model.specs.WritingOut.{Written}
-use Rattle.printing.specs.Appending.{placeAfter}
 use Rattle.printing.specs.Decimals.{digitsOnto, decimal}
 use Rattle.printing.proofs.Runs.{Appended, appended-both}
 use Rattle.lines.proofs.Listings.{Listed, listed-more}

@@ -1,8 +1,8 @@
 -- PlayLaws: what a statement prints is what its step prints, and an answered question is the definition's step.
-use mathlib.Core.Path.{_≡_, refl, ap, ap₂, sym, subst, _∙_}
+use mathlib.Core.Path.{_≡_, refl, ap, ap₂, sym, _∙_}
 use mathlib.Core.Bool.{true, false}
-use mathlib.Core.List.{List, [], _∷_, _++_}
-use Prim.Native.Nat.{ℕ, _+_, _*_, _-_, _≤_}
+use mathlib.Core.List.{List, _++_}
+use Prim.Native.Nat.{ℕ, _+_, _*_, _≤_}
 use native.Mathlib.Omega.{arith}
 use lib.ListN.{length, take, drop, length-append}
 use lib.Seq.{take-at}
@@ -10,9 +10,8 @@ use Rattle.foundation.specs.Tests.{choose}
 use Rattle.model.specs.Answers.{Answer}
 use Rattle.model.specs.WritingOut.{Written}
 use Rattle.printing.proofs.Runs.{Appended}
-use Rattle.script.specs.Phrases as phrases
 use Rattle.script.specs.Spans.{overwritten}
-use Rattle.script.specs.Meaning.{State, Step, labelled, spaced, answerText, writtenText, untouched}
+use Rattle.script.specs.Meaning.{State, labelled, spaced, answerText, untouched}
 use Rattle.playing.specs.declared.desks.Desk.{Desk}
 use Rattle.playing.specs.declared.desks.Left.{Left}
 use Rattle.playing.specs.declared.questions.Question.{Question}
@@ -23,7 +22,7 @@ use Rattle.playing.specs.Questions.{Asked, asked, Comes, Lends, question
 use Rattle.playing.specs.Printed.{line, printedText, PrintedFits, mostOutput}
 use Rattle.playing.specs.Plays.{Plays}
 use Rattle.playing.proofs.QuestionLaws.{answered, question-steps, question-order}
-use Rattle.playing.proofs.LineLaws.{Both, appended-first, appended-within, appended-two, line-labelled, line-length, answer-short, written-short, spaced-short, sevens-short}
+use Rattle.playing.proofs.LineLaws.{Both, appended-first, appended-within, appended-two, line-labelled, line-length, answer-short, spaced-short, sevens-short}
 
 -- one line, and two
 module _ (entry text : List ℕ) {place : ℕ} {out : List ℕ} (a : Appended entry 0 (line text) place out) (h : length (line text) ≤ length entry) where

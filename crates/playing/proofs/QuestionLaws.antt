@@ -1,35 +1,34 @@
 -- QuestionLaws: what a question makes of the state. A limit out of range, or a room above the most, is refused whatever
 -- buffers are lent, and nothing is then written.
 use mathlib.Core.Path.{_≡_, refl, ap, ap₂, sym, _∙_}
-use mathlib.Core.Bool.{Bool, true, false, not, _&&_, _||_, true≢false}
-use mathlib.Core.List.{List, [], _∷_, _++_}
-use Prim.Native.Nat.{ℕ, zero, suc, _+_, _*_, _-_, _%_, _≤_, _<_}
+use mathlib.Core.Bool.{Bool, true, false, not, _||_, true≢false}
+use mathlib.Core.List.{List, [], _++_}
+use Prim.Native.Nat.{ℕ, _*_, _-_, _%_, _≤_, _<_}
 use native.Mathlib.Omega.{arith}
-use lib.Dec.{eqb, ltb, leb}
-use lib.ListN.{length, getD, take, drop, replicate, length-replicate}
+use lib.Dec.{eqb, ltb}
+use lib.ListN.{length, take, drop, length-replicate}
 use lib.Seq.{take-at, length-take-le}
 use borrow.Author.Tests.{lt-ltb, ltb-true, ltb-false, lt-leb, ne-eqb}
 use Rattle.foundation.specs.Tests.{choose}
 use Rattle.foundation.specs.Search.{first}
 use Rattle.model.specs.Tables.{Contract}
 use Rattle.model.specs.Answers.{Verdict, fine, refused, _then_, refuseIf, refuseFirst, Answer, admitted, judged, tree, pass, ran, written, refusal, given}
-use Rattle.model.specs.Admission.{sizes, lengths, inputRows, entries, counts, nodes, rules, facts, admission, admit}
+use Rattle.model.specs.Admission.{sizes, lengths, inputRows, entries, counts, nodes, rules, facts, admission}
 use Rattle.model.specs.Documents.{document}
-use Rattle.model.specs.Judging.{judging}
 use Rattle.model.specs.Checking.{Checked, checking, checkingVerdict}
 use Rattle.model.specs.Running.{Ran, rowsWrong, running, runningVerdict}
 use Rattle.script.specs.Spans.{overwritten}
 use Rattle.script.specs.Meaning as meaning
-use Rattle.script.specs.Meaning.{State, Step, contractOf, withLeft, currentRows, untouched, labelled, answerText}
+use Rattle.script.specs.Meaning.{State, contractOf, withLeft, currentRows, untouched, labelled, answerText}
 use Rattle.playing.specs.declared.questions.Question.{Question}
 use Rattle.playing.specs.declared.questions.Question.the-variants as question
 use Rattle.playing.specs.declared.questions.Lent.{Lent}
 use Rattle.playing.specs.declared.desks.Left.{Left}
 use Rattle.playing.specs.declared.desks.Left.the-variants as left
 use Rattle.playing.specs.declared.desks.Desk.{Desk}
-use Rattle.playing.specs.Desks.{kept, stretch, span, tablesOf, leftOf, stateOf, deskWithLeft, Inside, TablesInside, LeftFits, InOrder}
+use Rattle.playing.specs.Desks.{kept, stretch, span, tablesOf, leftOf, stateOf, deskWithLeft, Inside, LeftFits, InOrder}
 use Rattle.playing.specs.Questions.{Asked, asked, Comes, Lends, questionStep, limitOut, roomOut, lentTo, leftAfter, Small, writesRows, setsRows, deskAfter}
-use Rattle.playing.proofs.StateLaws.{agree-overwritten, agree-same, tables-agree}
+use Rattle.playing.proofs.StateLaws.{agree-overwritten, tables-agree}
 
 -- admission's refusals have the numbers 1 to 8
 abbrev Low : Verdict → Type 0

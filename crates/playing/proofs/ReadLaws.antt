@@ -1,16 +1,17 @@
 -- ReadLaws: what is read. A statement that is no fault has as many numbers as its list counts, and they fit the room.
-use mathlib.Core.Path.{_≡_, refl, ap, sym, _∙_}
+use mathlib.Core.Path.{_≡_, refl}
 use mathlib.Core.Bool.{Bool, true, false, _&&_}
-use mathlib.Core.List.{List, [], _∷_, _++_}
-use Prim.Native.Nat.{ℕ, zero, suc, _+_, _-_, _≤_}
+use mathlib.Core.List.{List, []}
+use Prim.Native.Nat.{ℕ, zero, suc, _≤_}
 use native.Mathlib.Omega.{arith}
 use lib.Dec.{leb}
 use lib.ListN.{length}
+use borrow.Author.Tests.{leb-false}
 use Rattle.foundation.specs.Tests.{choose}
 use Rattle.lexing.specs.Words.{wordOf}
 use Rattle.lexing.specs.declared.words.Word.{Word}
 use Rattle.lexing.specs.declared.words.Word.the-variants as word
-use Rattle.script.specs.Spans.{spanAt, bytesOf, fault, aheadAt, dueAt, Ending, ended, faulty, Listing, listing, listingOf, numbersBy, numbersOf, more}
+use Rattle.script.specs.Spans.{spanAt, bytesOf, fault, aheadAt, dueAt, Ending, ended, faulty, listing, listingOf, numbersBy, more}
 use Rattle.script.specs.declared.spans.Span.{Span}
 use Rattle.script.specs.declared.spans.Ahead.{Ahead}
 use Rattle.script.specs.declared.spans.Ahead.the-variants as ahead
@@ -22,6 +23,8 @@ use Rattle.script.specs.declared.statements.Listed.the-variants as listed
 use Rattle.script.specs.declared.statements.Statement.{Statement}
 use Rattle.script.specs.declared.statements.Statement.the-variants as statement
 use Rattle.script.specs.declared.statements.Reading.{Reading}
+use Rattle.script.proofs.Stretches.{span-least, span-most}
+use Rattle.playing.specs.Desks.{Inside}
 use Rattle.script.specs.Statements.{Read, reading, plain, nameAt, sizeAt, checkAt, writeAt, listAt, runAt, wordAt, statementAt, withNumber, listBy, self}
 
 -- the numbers of a list are as many as it counts; no other statement has any, and those before a fault do not matter
@@ -116,3 +119,73 @@ module _ (text : List ℕ) (cut : Bool) (room : ℕ) where
       go true b = counted-plain (reading (statement.Fault (fault (spanAt text at) expected.End)) at) tt
       go false true = counted-plain (reading statement.End at) refl
       go false false = counted-word (spanAt text at) (wordOf (bytesOf text (spanAt text at)))
+
+-- a label lies within the text
+abbrev pub Named : List ℕ → Statement → Type 0
+Named text statement.End = Unit {0}
+Named text (statement.Fault f) = Unit {0}
+Named text (statement.Case s) = Inside 0 (length text) s
+Named text (statement.Size z n) = Unit {0}
+Named text (statement.List l count) = Unit {0}
+Named text statement.Admit = Unit {0}
+Named text (statement.Check limit) = Unit {0}
+Named text (statement.Write row room) = Unit {0}
+Named text statement.Show = Unit {0}
+
+module _ (text : List ℕ) (cut : Bool) (room : ℕ) where
+  named-name : (at : ℕ) → Named text (nameAt text cut at .statement)
+  unfolding nameAt
+  named-name at = go (cut && leb (length text) (spanAt text at .end)) (leb (length text) (spanAt text at .start)) refl
+    where
+      go : (a b : Bool) → leb (length text) (spanAt text at .start) ≡ b → Named text (choose a (reading (statement.Fault (fault (spanAt text at) expected.End)) at)
+          (choose b (reading (statement.Fault (fault (spanAt text at) expected.Name)) at) (reading (statement.Case (spanAt text at)) (spanAt text at .end))) .statement)
+      go true b e = tt
+      go false true e = tt
+      go false false e =
+          let h : spanAt text at .start ≤ length text = omega (arith, leb-false (length text) (spanAt text at .start) e) in
+          record { from = omega arith; ordered = span-least text at (spanAt text at) refl; upTo = span-most text at (spanAt text at) refl h }
+
+  named-due : (at : ℕ) (d : Due) (then : ℕ → ℕ → Reading) → ((value next : ℕ) → Named text (then value next .statement)) → Named text (withNumber self at d then .statement)
+  named-due at (due.Number value next) then h = h value next
+  named-due at (due.Fault f) then h = tt
+
+  named-list : (at : ℕ) (l : Listed) → Named text (listAt text cut room at l .reading .statement)
+  unfolding listAt
+  named-list at l = go (listing text cut room at .ending)
+    where
+      go : (e : Ending) → Named text (listBy l at (numbersBy (length (listing text cut room at .values)) e) .statement)
+      go (ended next) = tt
+      go (faulty f) = tt
+
+  named-run : (at : ℕ) → Named text (runAt text cut room at .reading .statement)
+  unfolding runAt
+  named-run at = go (dueAt text cut at)
+    where
+      go : (d : Due) → Named text (withNumber plain at d (λ rows next. listAt text cut room next (listed.Run rows)) .reading .statement)
+      go (due.Number rows next) = named-list next (listed.Run rows)
+      go (due.Fault f) = tt
+
+  named-word : (span : Span) (w : Word) → Named text (wordAt text cut room span w .reading .statement)
+  unfolding wordAt sizeAt checkAt writeAt
+  named-word span word.Case = named-name (span .end)
+  named-word span (word.Size z) = named-due (span .end) (dueAt text cut (span .end)) _ (λ value next. tt)
+  named-word span (word.Table t) = named-list (span .end) (listed.Table t)
+  named-word span word.Rows = named-list (span .end) listed.Rows
+  named-word span word.Admit = tt
+  named-word span word.Judge = named-list (span .end) listed.Judge
+  named-word span word.Check = named-due (span .end) (dueAt text cut (span .end)) _ (λ value next. tt)
+  named-word span word.Run = named-run (span .end)
+  named-word span word.Write =
+      named-due (span .end) (dueAt text cut (span .end)) _ (λ row behind. named-due behind (dueAt text cut behind) _ (λ room next. tt))
+  named-word span word.Show = tt
+  named-word span word.Unknown = tt
+
+  pub named : (at : ℕ) → Named text (statementAt text cut room at .reading .statement)
+  unfolding statementAt
+  named at = go (cut && leb (length text) (spanAt text at .end)) (leb (length text) (spanAt text at .start))
+    where
+      go : (a b : Bool) → Named text (choose a (plain (reading (statement.Fault (fault (spanAt text at) expected.End)) at))
+          (choose b (plain (reading statement.End at)) (wordAt text cut room (spanAt text at) (wordOf (bytesOf text (spanAt text at))))) .reading .statement)
+      go true b = tt
+      go false true = tt
+      go false false = named-word (spanAt text at) (wordOf (bytesOf text (spanAt text at)))

@@ -1,13 +1,12 @@
 -- StateLaws: what the state of a desk depends on, and what a statement that sets something makes of it.
 use mathlib.Core.Path.{_≡_, refl, ap, ap₂, sym, _∙_}
-use mathlib.Core.List.{List, [], _∷_, _++_}
-use Prim.Native.Nat.{ℕ, zero, suc, _+_, _-_, _≤_, _<_}
+use mathlib.Core.List.{List, [], _∷_}
+use Prim.Native.Nat.{ℕ, zero, suc, _+_, _-_, _≤_}
 use native.Mathlib.Omega.{arith}
-use native.Mathlib.Nat.{not-suc-le-zero}
 use lib.ListN.{length, take, drop, length-take, length-drop}
 use lib.Seq.{take-take, take-nil, drop-drop, drop-append-add}
 use Rattle.script.specs.Spans.{overwritten}
-use Rattle.script.specs.Meaning.{State, initial, withSize, withTable, withRows, mostNumbers}
+use Rattle.script.specs.Meaning.{initial, withSize, withTable, withRows, mostNumbers}
 use Rattle.script.specs.declared.spans.Span.{Span}
 use Rattle.lexing.specs.declared.words.Size.{Size}
 use Rattle.lexing.specs.declared.words.Size.the-variants as size
@@ -15,7 +14,7 @@ use Rattle.lexing.specs.declared.words.Table.{Table}
 use Rattle.lexing.specs.declared.words.Table.the-variants as table
 use Rattle.playing.specs.declared.desks.Tables.{Tables}
 use Rattle.playing.specs.declared.desks.Desk.{Desk}
-use Rattle.playing.specs.Desks.{kept, stretch, span, sizesOf, tablesOf, leftOf, stateOf, tablesWith, emptyDesk, deskWithSize, deskWithTable, deskWithRows, Inside, TablesInside, InOrder}
+use Rattle.playing.specs.Desks.{kept, stretch, span, tablesOf, stateOf, tablesWith, emptyDesk, deskWithSize, deskWithTable, deskWithRows, Inside, TablesInside, InOrder}
 
 -- two buffers have the same numbers at every span that lies between two places
 abbrev pub Agree : (low high : ℕ) (a b : List ℕ) → Type 0
@@ -48,9 +47,6 @@ agree-before a b low high e s i =
     sym (take-drop-take a (s .start) m high (omega arith))
     ∙ ap (λ (l : List ℕ). take m (drop (s .start) l)) e
     ∙ take-drop-take b (s .start) m high (omega arith)
-
-pub agree-same : (a : List ℕ) (low high : ℕ) → Agree low high a a
-agree-same a low high s i = refl
 
 pub tables-agree : {low high : ℕ} (a b : List ℕ) {t : Tables} → Agree low high a b → TablesInside low high t → tablesOf a t ≡ tablesOf b t
 tables-agree a b {t = t} same i =

@@ -1,9 +1,9 @@
 -- StatementLaws: each statement done, as the definition's step.
-use mathlib.Core.Path.{_≡_, refl, ap, sym, _∙_}
-use mathlib.Core.List.{List, []}
+use mathlib.Core.Path.{_≡_, refl, _∙_}
+use mathlib.Core.List.{List}
 use Prim.Native.Nat.{ℕ, _+_, _≤_}
 use native.Mathlib.Omega.{arith}
-use lib.ListN.{length, take}
+use lib.ListN.{length}
 use Rattle.model.specs.WritingOut.{writingOut}
 use Rattle.script.specs.Meaning.{State, Step, quiet, step, labelled, leftLines, writtenText, untouched, mostNumbers}
 use Rattle.script.specs.declared.spans.Span.{Span}

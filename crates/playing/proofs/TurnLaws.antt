@@ -1,13 +1,13 @@
 -- TurnLaws: reading a statement and doing it is one unfolding of what the definition prints.
 use mathlib.Core.Path.{_≡_, refl, ap, ap₂, sym, subst, _∙_}
 use mathlib.Core.Bool.{Bool, true, false, true≢false}
-use mathlib.Core.List.{List, [], _∷_, _++_}
-use Prim.Native.Nat.{ℕ, zero, suc, _+_, _-_, _≤_}
+use mathlib.Core.List.{List, [], _++_}
+use Prim.Native.Nat.{ℕ, suc, _+_, _-_, _≤_}
 use native.Mathlib.Omega.{arith}
 use lib.Dec.{leb, ltb}
 use lib.ListN.{length, take, drop, length-append, length-take, length-drop, drop-of-length-le}
 use borrow.Author.Tests.{ltb-false}
-use lib.Seq.{take-all, take-at, drop-at, take-append-le, drop-drop, length-take-le}
+use lib.Seq.{take-all, take-at, drop-at, length-take-le}
 use Rattle.foundation.specs.Tests.{choose}
 use Rattle.foundation.specs.Lists.{append-nil}
 use Rattle.lexing.specs.Text.{newlines}
@@ -27,14 +27,13 @@ use Rattle.playing.specs.declared.desks.Label.{Label}
 use Rattle.playing.specs.declared.desks.Desk.{Desk}
 use Rattle.playing.specs.declared.showing.Printed.{Printed}
 use Rattle.playing.specs.declared.statements.Done.{Done}
-use Rattle.playing.specs.declared.turns.Turn.{Turn}
-use Rattle.playing.specs.Desks.{kept, stretch, span, labelOf, stateOf, InOrder}
-use Rattle.playing.specs.Printed.{printedText, PrintedFits, mostOutput}
-use Rattle.playing.specs.Plays.{Plays, done, countOf}
+use Rattle.playing.specs.Desks.{kept, stretch, span, labelOf, stateOf, LabelFits, InOrder}
+use Rattle.playing.specs.Printed.{printedText, PrintedFits}
+use Rattle.playing.specs.Plays.{Plays, done, countOf, labelAfter}
 use Rattle.playing.specs.Turns.{goesOn, stopText, Turns}
 use Rattle.playing.proofs.StateLaws.{state-agrees}
 use Rattle.playing.proofs.LineLaws.{decimal-short}
-use Rattle.playing.proofs.ReadLaws.{Exact, Counted, counted}
+use Rattle.playing.proofs.ReadLaws.{Exact, counted, Named, named}
 
 -- a part behind a place, lent and given back
 pub part-whole : (numbers : List ℕ) (used : ℕ) → take (length numbers - used) (drop used numbers) ≡ drop used numbers
@@ -140,6 +139,18 @@ count-exact (statement.Check limit) values g e = ap length (sym e)
 count-exact (statement.Write row room) values g e = ap length (sym e)
 count-exact statement.Show values g e = ap length (sym e)
 
+-- a label that is read lies within the text
+label-fits : (text : List ℕ) (st : Statement) (l : Label) → Named text st → LabelFits l (length text) → LabelFits (labelAfter st l) (length text)
+label-fits text statement.End l n fit = fit
+label-fits text (statement.Fault f) l n fit = fit
+label-fits text (statement.Case s) l n fit = n
+label-fits text (statement.Size z v) l n fit = fit
+label-fits text (statement.List k count) l n fit = fit
+label-fits text statement.Admit l n fit = fit
+label-fits text (statement.Check limit) l n fit = fit
+label-fits text (statement.Write row room) l n fit = fit
+label-fits text statement.Show l n fit = fit
+
 -- a turn, by what is read and what is done with it
 module _ (text : List ℕ) (cut : Bool) (at : ℕ) (label : Label) (d : Desk) (o : InOrder d) (numbers rows words : List ℕ) (full : length numbers ≡ kept + mostNumbers) where
   abbrev before : State
@@ -182,8 +193,10 @@ module _ (text : List ℕ) (cut : Bool) (at : ℕ) (label : Label) (d : Desk) (o
         words₂
         out₂
         (x .printed)
+        → LabelFits label (length text)
+        → x .label ≡ labelAfter (r .statement) label
         → Turns text cut at label before (record { done = x; next = r .next; «goes_on» = true }) numbers₂ rows₂ words₂ out₂
-    turn-on {x} {numbers₂} {rows₂} {words₂} {out₂} g p =
+    turn-on {x} {numbers₂} {rows₂} {words₂} {out₂} g p fit el =
         let s : Step = step before text (found .reading .statement) (found .values) in
         let e₁ : stateOf (labelOf text label) d numbers₁ rows words ≡ before =
         state-agrees (labelOf text label) d numbers₁ numbers rows words o (ap (take (d .used)) en ∙ read-used numbers (found .values) (d .used) within) in
@@ -203,14 +216,17 @@ module _ (text : List ℕ) (cut : Bool) (at : ℕ) (label : Label) (d : Desk) (o
               ∙ ap₂ (λ (l : List ℕ) (a : State). l ++ played text cut n a (found .reading .next)) (sym (q .text)) (sym (q .state))
               ∙ ap (λ (y : Reading). printedText (labelOf text label) out₂ (x .printed) ++ played text cut n (stateOf (labelOf text (x .label)) (x .desk) numbers₂ rows₂ words₂) (y .next)) (sym er);
           order = q .order;
+          labelled =
+              rw (el, ap (λ (y : Reading). y .statement) er)
+              (label-fits text (found .reading .statement) label (named text cut (length numbers - d .used) at) fit);
           fits = q .fits;
         }
 
     -- the script stops
     pub turn-off : {p : Printed} {numbers₂ rows₂ words₂ out₂ : List ℕ} → goesOn (r .statement) ≡ false
-        → ((l : List ℕ) → printedText l out₂ p ≡ stopText text (r .statement)) → PrintedFits p (length out₂)
+        → ((l : List ℕ) → printedText l out₂ p ≡ stopText text (r .statement)) → PrintedFits p (length out₂) → LabelFits label (length text)
         → Turns text cut at label before (record { done = done label d p; next = r .next; «goes_on» = false }) numbers₂ rows₂ words₂ out₂
-    turn-off {p} {numbers₂} {rows₂} {words₂} {out₂} g shown fits =
+    turn-off {p} {numbers₂} {rows₂} {words₂} {out₂} g shown fits fit =
         let g₁ : goesOn (found .reading .statement) ≡ false = ap (λ (y : Reading). goesOn (y .statement)) (sym er) ∙ g in
         let s : Step = step before text (found .reading .statement) (found .values) in
         record {
@@ -223,5 +239,6 @@ module _ (text : List ℕ) (cut : Bool) (at : ℕ) (label : Label) (d : Desk) (o
               ∙ sym (shown (labelOf text label))
               ∙ sym (append-nil (printedText (labelOf text label) out₂ p));
           order = o;
+          labelled = fit;
           fits = fits;
         }

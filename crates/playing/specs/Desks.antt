@@ -1,7 +1,7 @@
 -- Desks: which state of a script's definition the desk and the buffers stand for, and when a desk is in order.
 use mathlib.Core.List.{List, [], _∷_}
 use Prim.Native.Nat.{ℕ, _+_, _-_, _≤_}
-use lib.ListN.{length, take}
+use lib.ListN.{take}
 use Rattle.script.specs.Spans.{bytesOf}
 use Rattle.script.specs.Meaning as meaning
 use Rattle.model.specs.Tables.{Contract}
@@ -139,3 +139,8 @@ pub record InOrder (d : Desk) : Type 0 where
   pub left : LeftFits (d .left)
   pub least : kept ≤ d .used
   pub most : d .used ≤ kept + mostNumbers
+
+-- a label that is a token lies within the text
+abbrev pub LabelFits : Label → ℕ → Type 0
+LabelFits label.Dash n = Unit {0}
+LabelFits (label.Token s) n = Inside 0 n s

@@ -8,10 +8,11 @@ use Rattle.script.specs.Meaning.{Step}
 use Rattle.script.specs.declared.statements.Statement.{Statement}
 use Rattle.script.specs.declared.statements.Statement.the-variants as statement
 use Rattle.playing.specs.declared.desks.Label.{Label}
+use Rattle.playing.specs.declared.desks.Label.the-variants as label
 use Rattle.playing.specs.declared.desks.Desk.{Desk}
 use Rattle.playing.specs.declared.statements.Done.{Done}
 use Rattle.playing.specs.declared.showing.Printed.{Printed}
-use Rattle.playing.specs.Desks.{kept, stateOf, InOrder}
+use Rattle.playing.specs.Desks.{stateOf, InOrder}
 use Rattle.playing.specs.Printed.{printedText, PrintedFits, mostOutput}
 
 -- the lengths of the row and word buffers, and of the output buffer
@@ -42,3 +43,15 @@ countOf statement.Admit = 0
 countOf (statement.Check limit) = 0
 countOf (statement.Write row room) = 0
 countOf statement.Show = 0
+
+-- the label behind a statement
+abbrev pub labelAfter : Statement → Label → Label
+labelAfter statement.End l = l
+labelAfter (statement.Fault f) l = l
+labelAfter (statement.Case s) l = label.Token s
+labelAfter (statement.Size z n) l = l
+labelAfter (statement.List k count) l = l
+labelAfter statement.Admit l = l
+labelAfter (statement.Check limit) l = l
+labelAfter (statement.Write row room) l = l
+labelAfter statement.Show l = l

@@ -1,7 +1,7 @@
 -- Printed: the lines of a statement, which stand in an output buffer without their label.
 use mathlib.Core.List.{List, [], _∷_, _++_}
 use Prim.Native.Nat.{ℕ, _-_, _≤_}
-use lib.ListN.{length, take, drop}
+use lib.ListN.{take, drop}
 use Rattle.playing.specs.declared.showing.Printed.{Printed}
 use Rattle.playing.specs.declared.showing.Printed.the-variants as printed
 

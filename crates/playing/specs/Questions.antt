@@ -14,7 +14,6 @@ use Rattle.model.specs.Judging.{judging}
 use Rattle.model.specs.Checking.{checking}
 use Rattle.model.specs.Running.{running}
 use Rattle.script.specs.Meaning.{State, contractOf, Step, untouched, answering, judgeStep, checkStep, runStep}
-use Rattle.script.specs.declared.spans.Span.{Span}
 use Rattle.playing.specs.declared.desks.Left.{Left}
 use Rattle.playing.specs.declared.desks.Left.the-variants as left
 use Rattle.playing.specs.declared.desks.Desk.{Desk}

@@ -10,7 +10,7 @@ use Rattle.script.specs.declared.statements.Statement.{Statement}
 use Rattle.script.specs.declared.statements.Statement.the-variants as statement
 use Rattle.playing.specs.declared.desks.Label.{Label}
 use Rattle.playing.specs.declared.turns.Turn.{Turn}
-use Rattle.playing.specs.Desks.{labelOf, stateOf, InOrder}
+use Rattle.playing.specs.Desks.{labelOf, stateOf, LabelFits, InOrder}
 use Rattle.playing.specs.Printed.{printedText, PrintedFits}
 
 -- a script stops at its end and at a fault
@@ -44,4 +44,14 @@ pub record Turns (text : List ℕ) (cut : Bool) (at : ℕ) (label : Label) (befo
       ≡ printedText (labelOf text label) out (t .done .printed)
       ++ choose (t .«goes_on») (played text cut n (stateOf (labelOf text (t .done .label)) (t .done .desk) numbers rows words) (t .next)) []
   pub order : InOrder (t .done .desk)
+  pub labelled : LabelFits (t .done .label) (length text)
   pub fits : PrintedFits (t .done .printed) (length out)
+
+-- what the turns of a script print one after another, from a state and a place on: at most so many, up to one that stops
+pub data Run (text : List ℕ) (cut : Bool) : ℕ → State → ℕ → List ℕ → Type 0 where
+  spent : (state : State) (at : ℕ) → Run text cut 0 state at []
+  stops : (n at : ℕ) (label : Label) (state : State) (t : Turn) (numbers rows words out : List ℕ) → Turns text cut at label state t numbers rows words out
+      → t .«goes_on» ≡ false → Run text cut (suc n) state at (printedText (labelOf text label) out (t .done .printed))
+  goes : (n at : ℕ) (label : Label) (state : State) (t : Turn) (numbers rows words out rest : List ℕ) → Turns text cut at label state t numbers rows words out
+      → t .«goes_on» ≡ true → Run text cut n (stateOf (labelOf text (t .done .label)) (t .done .desk) numbers rows words) (t .next) rest
+      → Run text cut (suc n) state at (printedText (labelOf text label) out (t .done .printed) ++ rest)

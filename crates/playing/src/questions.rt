@@ -1,6 +1,5 @@
 // The questions of a script to admission, judging, checking and running: what is lent to them, and what they leave.
 ghost use mathlib.Core.Path.{_≡_};
-ghost use Prim.Native.Nat.{_≤_};
 ghost use Rattle.playing.specs.Questions.{lentTo, leftAfter, Small};
 use crate::desks::Left;
 

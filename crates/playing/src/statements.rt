@@ -6,7 +6,7 @@ ghost use lib.ListN.{length};
 ghost use Rattle.script.specs.Meaning.{step, mostNumbers};
 ghost use Rattle.script.specs.declared.statements.Statement.the-variants as statements;
 ghost use Rattle.playing.specs.Desks.{kept, stretch, span, labelOf, stateOf, InOrder};
-ghost use Rattle.playing.specs.Plays.{Buffers, Plays, done, countOf};
+ghost use Rattle.playing.specs.Plays.{Buffers, Plays, done, countOf, labelAfter};
 use crate::answering::Answered;
 use crate::answering::answer;
 use crate::desks::Desk;
@@ -62,6 +62,7 @@ fn do_list(
     ensures { λ r. ⌜ ((text : List ℕ) → Plays (labelOf text label) (labelOf text (r .label))
         (step (stateOf (labelOf text label) desk (now (numbers .entry)) (now (rows .entry)) (now (words .entry))) text (statements.List listed count) (stretch (now (numbers .entry)) (span (desk .used) (desk .used + count))))
         (r .desk) (now (numbers .exit)) (now (rows .exit)) (now (words .exit)) (now (out .exit)) (r .printed)) ⌝ }
+    ensures { λ r. ⌜ r .label ≡ label ⌝ }
 {
     let used = desk.used;
     let end = used + count;
@@ -110,6 +111,7 @@ pub fn do_statement(
     ensures { λ r. ⌜ ((text : List ℕ) → Plays (labelOf text label) (labelOf text (r .label))
         (step (stateOf (labelOf text label) desk (now (numbers .entry)) (now (rows .entry)) (now (words .entry))) text statement (stretch (now (numbers .entry)) (span (desk .used) (desk .used + countOf statement))))
         (r .desk) (now (numbers .exit)) (now (rows .exit)) (now (words .exit)) (now (out .exit)) (r .printed)) ⌝ }
+    ensures { λ r. ⌜ r .label ≡ labelAfter statement label ⌝ }
 {
     let used = desk.used;
     match statement {

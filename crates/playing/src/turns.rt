@@ -6,7 +6,7 @@ ghost use lib.ListN.{length, take, drop};
 ghost use Rattle.script.specs.Spans.{overwritten};
 ghost use Rattle.script.specs.Statements.{statementAt};
 ghost use Rattle.script.specs.Meaning.{mostNumbers};
-ghost use Rattle.playing.specs.Desks.{kept, labelOf, stateOf, InOrder};
+ghost use Rattle.playing.specs.Desks.{kept, labelOf, stateOf, LabelFits, InOrder};
 ghost use Rattle.playing.specs.Printed.{printedText, PrintedFits, mostOutput};
 ghost use Rattle.playing.specs.Plays.{Buffers};
 ghost use Rattle.playing.specs.Turns.{goesOn, stopText, Turns};
@@ -85,7 +85,7 @@ pub fn play_turn(
     tree: &mut [u16],
     out: &mut [u8],
 ) -> Turn
-    requires { ⌜ InOrder desk × (length (now numbers) ≡ kept + mostNumbers) × Buffers (now rows) (now words) (now out) × (length (now tree) ≡ 65535) ⌝ }
+    requires { ⌜ InOrder desk × LabelFits label (length (now text)) × (length (now numbers) ≡ kept + mostNumbers) × Buffers (now rows) (now words) (now out) × (length (now tree) ≡ 65535) ⌝ }
     ensures { λ r. ⌜ Turns (now (text .entry)) cut at label (stateOf (labelOf (now (text .entry)) label) desk (now (numbers .entry)) (now (rows .entry)) (now (words .entry)))
         r (now (numbers .exit)) (now (rows .exit)) (now (words .exit)) (now (out .exit)) ⌝ }
 {

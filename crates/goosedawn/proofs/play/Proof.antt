@@ -1,12 +1,13 @@
 -- The loop's invariant: the desk is in order. The measure is how many turns are left.
 use native.Mathlib.Omega.{arith}
-use Rattle.playing.specs.Desks.{InOrder}
+use lib.ListN.{length}
+use Rattle.playing.specs.Desks.{LabelFits, InOrder}
 use Rattle.playing.proofs.StateLaws.{empty-order}
 use Rattle.goosedawn.proofs.play.Statement.{statement}
 use Rattle.goosedawn.proofs.play.Tie as tie
 
 abbrev Inv-loop : tie.InvT-loop
-Inv-loop text cut numbers₀ rows₀ words₀ tree₀ out₀ label₀ desk₀ at₀ left₀ numbers rows words tree out label desk at left = InOrder desk
+Inv-loop text cut numbers₀ rows₀ words₀ tree₀ out₀ label₀ desk₀ at₀ left₀ numbers rows words tree out label desk at left = InOrder desk × LabelFits label (length text)
 
 abbrev μ-loop : tie.MeasureT-loop
 μ-loop text cut numbers₀ rows₀ words₀ tree₀ out₀ label₀ desk₀ at₀ left₀ numbers rows words tree out label desk at left = left
@@ -30,13 +31,13 @@ empty-desk-requires : tie.Need-empty-desk-requires Inv-loop μ-loop
 empty-desk-requires c κs = tt
 
 loop-holds : tie.Need-loop-holds Inv-loop μ-loop
-loop-holds c = rw (c .empty-desk .ensures) empty-order
+loop-holds c = (rw (c .empty-desk .ensures) empty-order, tt)
 
 next-turn-requires : tie.Need-next-turn-requires Inv-loop μ-loop
 next-turn-requires c κs = c .before .before .before .before .before .loop .inv
 
 print-turn-requires : tie.Need-print-turn-requires Inv-loop μ-loop
-print-turn-requires c κs = c .before .before .before .next-turn .ensures .1
+print-turn-requires c κs = (c .before .before .before .next-turn .ensures .1, c .before .before .before .next-turn .ensures .2)
 
 returns : tie.Need-returns Inv-loop μ-loop
 returns c = tt
@@ -51,7 +52,7 @@ loop-less : tie.Need-loop-less Inv-loop μ-loop
 loop-less c = let h = c .if2 .left in omega (arith, h)
 
 loop-again : tie.Need-loop-again Inv-loop μ-loop
-loop-again c = c .before .before .before .before .before .before .before .next-turn .ensures .0
+loop-again c = (c .before .before .before .before .before .before .before .next-turn .ensures .0, c .before .before .before .before .before .before .before .next-turn .ensures .1)
 
 pub play-spec : {M : Type 1} → statement M
 play-spec =

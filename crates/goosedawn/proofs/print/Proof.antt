@@ -13,7 +13,7 @@ enum-known-printed : tie.Need-enum-known-printed
 enum-known-printed c = search needs
 
 slice-aggregate-write-all : tie.Need-slice-aggregate-write-all
-slice-aggregate-write-all c = let h = rw (c .before .before .printed .given .1) at (c .before .before .before .before .before .before .pre) in sym (length-take-le _ _ (omega (arith, h)))
+slice-aggregate-write-all c = let h = rw (c .before .before .printed .given .1) at (c .before .before .before .before .before .before .pre .1) in sym (length-take-le _ _ (omega (arith, h)))
 
 write-all-requires : tie.Need-write-all-requires
 write-all-requires c κs = search needs
@@ -25,7 +25,7 @@ print-label-requires : tie.Need-print-label-requires
 print-label-requires c κs = search needs
 
 slice-aggregate-write-all-2 : tie.Need-slice-aggregate-write-all-2
-slice-aggregate-write-all-2 c = let h = rw (c .before .before .before .printed2 .given .1) at (c .before .before .before .before .before .before .before .pre) in sym (length-take-le _ _ (omega (arith, h)))
+slice-aggregate-write-all-2 c = let h = rw (c .before .before .before .printed2 .given .1) at (c .before .before .before .before .before .before .before .pre .1) in sym (length-take-le _ _ (omega (arith, h)))
 
 write-all-requires-2 : tie.Need-write-all-requires-2
 write-all-requires-2 c κs = search needs
@@ -37,7 +37,7 @@ print-label-requires-2 : tie.Need-print-label-requires-2
 print-label-requires-2 c κs = search needs
 
 slice-aggregate-write-all-3 : tie.Need-slice-aggregate-write-all-3
-slice-aggregate-write-all-3 c = let h = rw (c .before .before .before .printed3 .given .1) at (c .before .before .before .before .before .before .before .pre) in sym (length-take-le _ _ (omega (arith, h)))
+slice-aggregate-write-all-3 c = let h = rw (c .before .before .before .printed3 .given .1) at (c .before .before .before .before .before .before .before .pre .1) in sym (length-take-le _ _ (omega (arith, h)))
 
 write-all-requires-3 : tie.Need-write-all-requires-3
 write-all-requires-3 c κs = search needs
@@ -46,13 +46,13 @@ print-label-requires-3 : tie.Need-print-label-requires-3
 print-label-requires-3 c κs = search needs
 
 sub-write-all : tie.Need-sub-write-all
-sub-write-all c = let h = rw (c .before .before .before .before .before .printed3 .given .1) at (c .before .before .before .before .before .before .before .before .before .pre) in omega (arith, h)
+sub-write-all c = let h = rw (c .before .before .before .before .before .printed3 .given .1) at (c .before .before .before .before .before .before .before .before .before .pre .1) in omega (arith, h)
 
 part-write-all-start : tie.Need-part-write-all-start
-part-write-all-start c = let h = rw (c .before .before .before .before .before .printed3 .given .1) at (c .before .before .before .before .before .before .before .before .before .pre) in omega (arith, h)
+part-write-all-start c = let h = rw (c .before .before .before .before .before .printed3 .given .1) at (c .before .before .before .before .before .before .before .before .before .pre .1) in omega (arith, h)
 
 part-write-all-end : tie.Need-part-write-all-end
-part-write-all-end c = let h = rw (c .before .before .before .before .before .printed3 .given .1) at (c .before .before .before .before .before .before .before .before .before .pre) in omega (arith, h)
+part-write-all-end c = let h = rw (c .before .before .before .before .before .printed3 .given .1) at (c .before .before .before .before .before .before .before .before .before .pre .1) in omega (arith, h)
 
 write-all-requires-4 : tie.Need-write-all-requires-4
 write-all-requires-4 c κs = search needs

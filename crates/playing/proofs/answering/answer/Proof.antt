@@ -2,7 +2,7 @@
 -- current table or not.
 use mathlib.Core.Path.{_≡_, ap, sym, _∙_}
 use native.Mathlib.Omega.{arith}
-use lib.ListN.{length, length-take}
+use lib.ListN.{length-take}
 use lib.Seq.{length-take-le}
 use Rattle.lines.specs.Answers.{numbered}
 use Rattle.playing.specs.declared.questions.Lent.{Lent}

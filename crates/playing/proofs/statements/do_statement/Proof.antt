@@ -1,9 +1,10 @@
 -- Case by case: what the statement is known to be, and the step that it is.
-use mathlib.Core.Path.{sym}
+use mathlib.Core.Path.{ap, sym}
 use Prim.Native.Nat.{_+_}
 use native.Mathlib.Omega.{arith}
 use lib.ListN.{take, length-take}
 use lib.Seq.{length-take-le}
+use Rattle.playing.specs.declared.statements.Done.{Done}
 use Rattle.playing.specs.Desks.{labelOf, stateOf, stretch, span}
 use Rattle.playing.specs.Plays.{countOf}
 use Rattle.playing.proofs.StateLaws.{inside-more}
@@ -82,16 +83,16 @@ show-requires : tie.Need-show-requires
 show-requires c κs = search needs
 
 returns : tie.Need-returns
-returns c = λ text. plays-end (labelOf text (c .before .before .before .before .before .before .before .args .label)) (c .before .before .before .before .before .before .before .args .numbers .now) (c .before .before .before .before .before .before .before .args .rows .now) (c .before .before .before .before .before .before .before .args .words .now) (c .before .before .before .before .before .before .before .args .out .now) text (c .before .before .before .before .before .before .before .args .desk) (c .before .before .before .before .before .before .before .pre .0) (stretch (c .before .before .before .before .before .before .before .args .numbers .now) (span (c .before .before .before .before .before .before .before .args .desk .used) (c .before .before .before .before .before .before .before .args .desk .used + countOf (c .before .before .before .before .before .before .before .args .statement)))) (c .enum-told .given .1)
+returns c = (λ text. plays-end (labelOf text (c .before .before .before .before .before .before .before .args .label)) (c .before .before .before .before .before .before .before .args .numbers .now) (c .before .before .before .before .before .before .before .args .rows .now) (c .before .before .before .before .before .before .before .args .words .now) (c .before .before .before .before .before .before .before .args .out .now) text (c .before .before .before .before .before .before .before .args .desk) (c .before .before .before .before .before .before .before .pre .0) (stretch (c .before .before .before .before .before .before .before .args .numbers .now) (span (c .before .before .before .before .before .before .before .args .desk .used) (c .before .before .before .before .before .before .before .args .desk .used + countOf (c .before .before .before .before .before .before .before .args .statement)))) (c .enum-told .given .1), rw (c .enum-told .given .1))
 
 returns-2 : tie.Need-returns-2
-returns-2 c = λ text. plays-fault (labelOf text (c .before .before .before .before .before .before .before .args .label)) (c .before .before .before .before .before .before .before .args .numbers .now) (c .before .before .before .before .before .before .before .args .rows .now) (c .before .before .before .before .before .before .before .args .words .now) (c .before .before .before .before .before .before .before .args .out .now) text (c .before .before .before .before .before .before .before .args .desk) (c .before .before .before .before .before .before .before .pre .0) (stretch (c .before .before .before .before .before .before .before .args .numbers .now) (span (c .before .before .before .before .before .before .before .args .desk .used) (c .before .before .before .before .before .before .before .args .desk .used + countOf (c .before .before .before .before .before .before .before .args .statement)))) (c .enum-told2 .given .1)
+returns-2 c = (λ text. plays-fault (labelOf text (c .before .before .before .before .before .before .before .args .label)) (c .before .before .before .before .before .before .before .args .numbers .now) (c .before .before .before .before .before .before .before .args .rows .now) (c .before .before .before .before .before .before .before .args .words .now) (c .before .before .before .before .before .before .before .args .out .now) text (c .before .before .before .before .before .before .before .args .desk) (c .before .before .before .before .before .before .before .pre .0) (stretch (c .before .before .before .before .before .before .before .args .numbers .now) (span (c .before .before .before .before .before .before .before .args .desk .used) (c .before .before .before .before .before .before .before .args .desk .used + countOf (c .before .before .before .before .before .before .before .args .statement)))) (c .enum-told2 .given .1), rw (c .enum-told2 .given .1))
 
 returns-3 : tie.Need-returns-3
-returns-3 c = λ text. plays-case (labelOf text (c .before .before .before .before .before .before .before .before .args .label)) (c .before .before .before .before .before .before .before .before .args .numbers .now) (c .before .before .before .before .before .before .before .before .args .rows .now) (c .before .before .before .before .before .before .before .before .args .words .now) (c .before .before .before .before .before .before .before .before .args .out .now) text (c .before .before .before .before .before .before .before .before .args .desk) (c .before .before .before .before .before .before .before .before .pre .0) (stretch (c .before .before .before .before .before .before .before .before .args .numbers .now) (span (c .before .before .before .before .before .before .before .before .args .desk .used) (c .before .before .before .before .before .before .before .before .args .desk .used + countOf (c .before .before .before .before .before .before .before .before .args .statement)))) (c .before .statement .given .1)
+returns-3 c = (λ text. plays-case (labelOf text (c .before .before .before .before .before .before .before .before .args .label)) (c .before .before .before .before .before .before .before .before .args .numbers .now) (c .before .before .before .before .before .before .before .before .args .rows .now) (c .before .before .before .before .before .before .before .before .args .words .now) (c .before .before .before .before .before .before .before .before .args .out .now) text (c .before .before .before .before .before .before .before .before .args .desk) (c .before .before .before .before .before .before .before .before .pre .0) (stretch (c .before .before .before .before .before .before .before .before .args .numbers .now) (span (c .before .before .before .before .before .before .before .before .args .desk .used) (c .before .before .before .before .before .before .before .before .args .desk .used + countOf (c .before .before .before .before .before .before .before .before .args .statement)))) (c .before .statement .given .1), rw (c .before .statement .given .1))
 
 returns-4 : tie.Need-returns-4
-returns-4 c = λ text. plays-size (labelOf text (c .before .before .before .before .before .before .before .before .before .before .args .label)) (c .before .before .before .before .before .before .before .before .before .before .args .numbers .now) (c .before .before .before .before .before .before .before .before .before .before .args .rows .now) (c .before .before .before .before .before .before .before .before .before .before .args .words .now) (c .before .before .before .before .before .before .before .before .before .before .args .out .now) text (c .before .before .before .before .before .before .before .before .before .before .args .desk) (c .before .before .before .before .before .before .before .before .before .before .pre .0) (stretch (c .before .before .before .before .before .before .before .before .before .before .args .numbers .now) (span (c .before .before .before .before .before .before .before .before .before .before .args .desk .used) (c .before .before .before .before .before .before .before .before .before .before .args .desk .used + countOf (c .before .before .before .before .before .before .before .before .before .before .args .statement)))) (c .before .before .before .statement2 .given .1) (c .before .wide .ensures .0) (c .set-size .ensures)
+returns-4 c = (λ text. plays-size (labelOf text (c .before .before .before .before .before .before .before .before .before .before .args .label)) (c .before .before .before .before .before .before .before .before .before .before .args .numbers .now) (c .before .before .before .before .before .before .before .before .before .before .args .rows .now) (c .before .before .before .before .before .before .before .before .before .before .args .words .now) (c .before .before .before .before .before .before .before .before .before .before .args .out .now) text (c .before .before .before .before .before .before .before .before .before .before .args .desk) (c .before .before .before .before .before .before .before .before .before .before .pre .0) (stretch (c .before .before .before .before .before .before .before .before .before .before .args .numbers .now) (span (c .before .before .before .before .before .before .before .before .before .before .args .desk .used) (c .before .before .before .before .before .before .before .before .before .before .args .desk .used + countOf (c .before .before .before .before .before .before .before .before .before .before .args .statement)))) (c .before .before .before .statement2 .given .1) (c .before .wide .ensures .0) (c .set-size .ensures), rw (c .before .before .before .statement2 .given .1))
 
 same-length : tie.Need-same-length
 same-length c = search needs
@@ -106,7 +107,7 @@ same-length-4 : tie.Need-same-length-4
 same-length-4 c = search needs
 
 returns-5 : tie.Need-returns-5
-returns-5 c = λ text. rw (c .before .before .before .before .before .before .before .before .before .before .before .before .before .before .statement3 .given .1) (c .before .before .before .before .before .before .before .before .do-list .ensures text)
+returns-5 c = (λ text. rw (c .before .before .before .before .before .before .before .before .before .before .before .before .before .before .statement3 .given .1) (c .before .before .before .before .before .before .before .before .do-list .ensures .0 text), rw (c .before .before .before .before .before .before .before .before .before .before .before .before .before .before .statement3 .given .1) (c .before .before .before .before .before .before .before .before .do-list .ensures .1))
 
 same-length-5 : tie.Need-same-length-5
 same-length-5 c = search needs
@@ -121,7 +122,7 @@ same-length-8 : tie.Need-same-length-8
 same-length-8 c = search needs
 
 returns-6 : tie.Need-returns-6
-returns-6 c = λ text. plays-as text (c .before .before .before .before .before .before .before .before .before .before .before .before .before .before .before .before .before .before .before .before .before .args .label) (c .before .before .before .before .before .before .before .before .before .answer .result) (c .answered .ensures) (step-admit (stateOf (labelOf text (c .before .before .before .before .before .before .before .before .before .before .before .before .before .before .before .before .before .before .before .before .before .args .label)) (c .before .before .before .before .before .before .before .before .before .before .before .before .before .before .before .before .before .before .before .before .before .args .desk) (c .before .before .before .before .before .before .before .before .before .before .before .before .before .before .before .before .before .before .before .before .before .args .numbers .now) (c .before .before .before .before .before .before .before .before .before .before .before .before .before .before .before .before .before .before .before .before .before .args .rows .now) (c .before .before .before .before .before .before .before .before .before .before .before .before .before .before .before .before .before .before .before .before .before .args .words .now)) text (stretch (c .before .before .before .before .before .before .before .before .before .before .before .before .before .before .before .before .before .before .before .before .before .args .numbers .now) (span (c .before .before .before .before .before .before .before .before .before .before .before .before .before .before .before .before .before .before .before .before .before .args .desk .used) (c .before .before .before .before .before .before .before .before .before .before .before .before .before .before .before .before .before .before .before .before .before .args .desk .used + countOf (c .before .before .before .before .before .before .before .before .before .before .before .before .before .before .before .before .before .before .before .before .before .args .statement)))) (stretch (c .before .before .before .before .before .before .before .before .before .before .before .before .before .before .before .before .before .before .before .before .before .args .numbers .now) (span (c .before .before .before .before .before .before .before .before .before .before .before .before .before .before .before .before .before .before .before .before .before .args .desk .used) (c .before .before .before .before .before .before .before .before .before .before .before .before .before .before .before .before .before .before .before .before .before .args .desk .used))) (c .before .before .before .before .before .before .before .before .before .before .before .before .before .before .enum-told3 .given .1)) (c .before .before .before .before .before .before .before .before .before .answer .ensures (labelOf text (c .before .before .before .before .before .before .before .before .before .before .before .before .before .before .before .before .before .before .before .before .before .args .label)))
+returns-6 c = (λ text. plays-as text (c .before .before .before .before .before .before .before .before .before .before .before .before .before .before .before .before .before .before .before .before .before .args .label) (c .before .before .before .before .before .before .before .before .before .answer .result) (c .answered .ensures) (step-admit (stateOf (labelOf text (c .before .before .before .before .before .before .before .before .before .before .before .before .before .before .before .before .before .before .before .before .before .args .label)) (c .before .before .before .before .before .before .before .before .before .before .before .before .before .before .before .before .before .before .before .before .before .args .desk) (c .before .before .before .before .before .before .before .before .before .before .before .before .before .before .before .before .before .before .before .before .before .args .numbers .now) (c .before .before .before .before .before .before .before .before .before .before .before .before .before .before .before .before .before .before .before .before .before .args .rows .now) (c .before .before .before .before .before .before .before .before .before .before .before .before .before .before .before .before .before .before .before .before .before .args .words .now)) text (stretch (c .before .before .before .before .before .before .before .before .before .before .before .before .before .before .before .before .before .before .before .before .before .args .numbers .now) (span (c .before .before .before .before .before .before .before .before .before .before .before .before .before .before .before .before .before .before .before .before .before .args .desk .used) (c .before .before .before .before .before .before .before .before .before .before .before .before .before .before .before .before .before .before .before .before .before .args .desk .used + countOf (c .before .before .before .before .before .before .before .before .before .before .before .before .before .before .before .before .before .before .before .before .before .args .statement)))) (stretch (c .before .before .before .before .before .before .before .before .before .before .before .before .before .before .before .before .before .before .before .before .before .args .numbers .now) (span (c .before .before .before .before .before .before .before .before .before .before .before .before .before .before .before .before .before .before .before .before .before .args .desk .used) (c .before .before .before .before .before .before .before .before .before .before .before .before .before .before .before .before .before .before .before .before .before .args .desk .used))) (c .before .before .before .before .before .before .before .before .before .before .before .before .before .before .enum-told3 .given .1)) (c .before .before .before .before .before .before .before .before .before .answer .ensures (labelOf text (c .before .before .before .before .before .before .before .before .before .before .before .before .before .before .before .before .before .before .before .before .before .args .label))), rw (c .before .before .before .before .before .before .before .before .before .before .before .before .before .before .enum-told3 .given .1) (ap (λ (x : Done). x .label) (c .answered .ensures)))
 
 same-length-9 : tie.Need-same-length-9
 same-length-9 c = search needs
@@ -136,7 +137,7 @@ same-length-12 : tie.Need-same-length-12
 same-length-12 c = search needs
 
 returns-7 : tie.Need-returns-7
-returns-7 c = λ text. plays-as text (c .before .before .before .before .before .before .before .before .before .before .before .before .before .before .before .before .before .before .before .before .before .before .before .args .label) (c .before .before .before .before .before .before .before .before .before .answer2 .result) (c .answered2 .ensures) (step-check (stateOf (labelOf text (c .before .before .before .before .before .before .before .before .before .before .before .before .before .before .before .before .before .before .before .before .before .before .before .args .label)) (c .before .before .before .before .before .before .before .before .before .before .before .before .before .before .before .before .before .before .before .before .before .before .before .args .desk) (c .before .before .before .before .before .before .before .before .before .before .before .before .before .before .before .before .before .before .before .before .before .before .before .args .numbers .now) (c .before .before .before .before .before .before .before .before .before .before .before .before .before .before .before .before .before .before .before .before .before .before .before .args .rows .now) (c .before .before .before .before .before .before .before .before .before .before .before .before .before .before .before .before .before .before .before .before .before .before .before .args .words .now)) text (stretch (c .before .before .before .before .before .before .before .before .before .before .before .before .before .before .before .before .before .before .before .before .before .before .before .args .numbers .now) (span (c .before .before .before .before .before .before .before .before .before .before .before .before .before .before .before .before .before .before .before .before .before .before .before .args .desk .used) (c .before .before .before .before .before .before .before .before .before .before .before .before .before .before .before .before .before .before .before .before .before .before .before .args .desk .used + countOf (c .before .before .before .before .before .before .before .before .before .before .before .before .before .before .before .before .before .before .before .before .before .before .before .args .statement)))) (stretch (c .before .before .before .before .before .before .before .before .before .before .before .before .before .before .before .before .before .before .before .before .before .before .before .args .numbers .now) (span (c .before .before .before .before .before .before .before .before .before .before .before .before .before .before .before .before .before .before .before .before .before .before .before .args .desk .used) (c .before .before .before .before .before .before .before .before .before .before .before .before .before .before .before .before .before .before .before .before .before .before .before .args .desk .used))) (c .before .before .before .before .before .before .before .before .before .before .before .before .before .before .before .before .statement4 .given .1) (c .before .before .before .before .before .before .before .before .before .before .before .before .before .before .wide2 .ensures .0)) (c .before .before .before .before .before .before .before .before .before .answer2 .ensures (labelOf text (c .before .before .before .before .before .before .before .before .before .before .before .before .before .before .before .before .before .before .before .before .before .before .before .args .label)))
+returns-7 c = (λ text. plays-as text (c .before .before .before .before .before .before .before .before .before .before .before .before .before .before .before .before .before .before .before .before .before .before .before .args .label) (c .before .before .before .before .before .before .before .before .before .answer2 .result) (c .answered2 .ensures) (step-check (stateOf (labelOf text (c .before .before .before .before .before .before .before .before .before .before .before .before .before .before .before .before .before .before .before .before .before .before .before .args .label)) (c .before .before .before .before .before .before .before .before .before .before .before .before .before .before .before .before .before .before .before .before .before .before .before .args .desk) (c .before .before .before .before .before .before .before .before .before .before .before .before .before .before .before .before .before .before .before .before .before .before .before .args .numbers .now) (c .before .before .before .before .before .before .before .before .before .before .before .before .before .before .before .before .before .before .before .before .before .before .before .args .rows .now) (c .before .before .before .before .before .before .before .before .before .before .before .before .before .before .before .before .before .before .before .before .before .before .before .args .words .now)) text (stretch (c .before .before .before .before .before .before .before .before .before .before .before .before .before .before .before .before .before .before .before .before .before .before .before .args .numbers .now) (span (c .before .before .before .before .before .before .before .before .before .before .before .before .before .before .before .before .before .before .before .before .before .before .before .args .desk .used) (c .before .before .before .before .before .before .before .before .before .before .before .before .before .before .before .before .before .before .before .before .before .before .before .args .desk .used + countOf (c .before .before .before .before .before .before .before .before .before .before .before .before .before .before .before .before .before .before .before .before .before .before .before .args .statement)))) (stretch (c .before .before .before .before .before .before .before .before .before .before .before .before .before .before .before .before .before .before .before .before .before .before .before .args .numbers .now) (span (c .before .before .before .before .before .before .before .before .before .before .before .before .before .before .before .before .before .before .before .before .before .before .before .args .desk .used) (c .before .before .before .before .before .before .before .before .before .before .before .before .before .before .before .before .before .before .before .before .before .before .before .args .desk .used))) (c .before .before .before .before .before .before .before .before .before .before .before .before .before .before .before .before .statement4 .given .1) (c .before .before .before .before .before .before .before .before .before .before .before .before .before .before .wide2 .ensures .0)) (c .before .before .before .before .before .before .before .before .before .answer2 .ensures (labelOf text (c .before .before .before .before .before .before .before .before .before .before .before .before .before .before .before .before .before .before .before .before .before .before .before .args .label))), rw (c .before .before .before .before .before .before .before .before .before .before .before .before .before .before .before .before .statement4 .given .1) (ap (λ (x : Done). x .label) (c .answered2 .ensures)))
 
 same-length-13 : tie.Need-same-length-13
 same-length-13 c = search needs
@@ -148,7 +149,7 @@ same-length-15 : tie.Need-same-length-15
 same-length-15 c = search needs
 
 returns-8 : tie.Need-returns-8
-returns-8 c = λ text. plays-write (labelOf text (c .before .before .before .before .before .before .before .before .before .before .before .before .before .before .before .before .before .before .before .args .label)) (c .before .before .before .before .before .before .before .before .before .before .before .before .before .before .before .before .before .before .before .args .numbers .now) (c .before .before .before .before .before .before .before .before .before .before .before .before .before .before .before .before .before .before .before .args .rows .now) (c .before .before .before .before .before .before .before .before .before .before .before .before .before .before .before .before .before .before .before .args .words .now) (c .before .before .before .before .write .last .1 .1 .1 .1 .0) text (c .before .before .before .before .before .before .before .before .before .before .before .before .before .before .before .before .before .before .before .args .desk) (c .before .before .before .before .before .before .before .before .before .before .before .before .before .before .before .before .before .before .before .pre .0) (stretch (c .before .before .before .before .before .before .before .before .before .before .before .before .before .before .before .before .before .before .before .args .numbers .now) (span (c .before .before .before .before .before .before .before .before .before .before .before .before .before .before .before .before .before .before .before .args .desk .used) (c .before .before .before .before .before .before .before .before .before .before .before .before .before .before .before .before .before .before .before .args .desk .used + countOf (c .before .before .before .before .before .before .before .before .before .before .before .before .before .before .before .before .before .before .before .args .statement)))) (take (c .before .before .before .before .before .before .before .before .before .wide3 .result) (c .before .before .before .before .before .before .before .before .before .before .before .before .before .before .before .before .before .before .before .args .tree .now)) (c .before .before .before .before .before .before .before .before .before .before .before .before .statement5 .given .1) (c .before .before .before .before .before .before .before .wide4 .ensures .0) (length-take-le _ _ (omega (arith, c .before .before .before .before .before .before .before .before .before .wide3 .ensures .1, c .before .before .before .before .before .before .before .before .before .before .before .before .before .before .before .before .before .before .before .pre .4))) (c .before .before .before .before .before .before .before .before .before .wide3 .ensures .0) (c .before .before .before .before .write .ensures .0) (c .before .before .before .before .write .ensures .1)
+returns-8 c = (λ text. plays-write (labelOf text (c .before .before .before .before .before .before .before .before .before .before .before .before .before .before .before .before .before .before .before .args .label)) (c .before .before .before .before .before .before .before .before .before .before .before .before .before .before .before .before .before .before .before .args .numbers .now) (c .before .before .before .before .before .before .before .before .before .before .before .before .before .before .before .before .before .before .before .args .rows .now) (c .before .before .before .before .before .before .before .before .before .before .before .before .before .before .before .before .before .before .before .args .words .now) (c .before .before .before .before .write .last .1 .1 .1 .1 .0) text (c .before .before .before .before .before .before .before .before .before .before .before .before .before .before .before .before .before .before .before .args .desk) (c .before .before .before .before .before .before .before .before .before .before .before .before .before .before .before .before .before .before .before .pre .0) (stretch (c .before .before .before .before .before .before .before .before .before .before .before .before .before .before .before .before .before .before .before .args .numbers .now) (span (c .before .before .before .before .before .before .before .before .before .before .before .before .before .before .before .before .before .before .before .args .desk .used) (c .before .before .before .before .before .before .before .before .before .before .before .before .before .before .before .before .before .before .before .args .desk .used + countOf (c .before .before .before .before .before .before .before .before .before .before .before .before .before .before .before .before .before .before .before .args .statement)))) (take (c .before .before .before .before .before .before .before .before .before .wide3 .result) (c .before .before .before .before .before .before .before .before .before .before .before .before .before .before .before .before .before .before .before .args .tree .now)) (c .before .before .before .before .before .before .before .before .before .before .before .before .statement5 .given .1) (c .before .before .before .before .before .before .before .wide4 .ensures .0) (length-take-le _ _ (omega (arith, c .before .before .before .before .before .before .before .before .before .wide3 .ensures .1, c .before .before .before .before .before .before .before .before .before .before .before .before .before .before .before .before .before .before .before .pre .4))) (c .before .before .before .before .before .before .before .before .before .wide3 .ensures .0) (c .before .before .before .before .write .ensures .0) (c .before .before .before .before .write .ensures .1), rw (c .before .before .before .before .before .before .before .before .before .before .before .before .statement5 .given .1))
 
 same-length-16 : tie.Need-same-length-16
 same-length-16 c = search needs
@@ -160,7 +161,7 @@ same-length-18 : tie.Need-same-length-18
 same-length-18 c = search needs
 
 returns-9 : tie.Need-returns-9
-returns-9 c = λ text. plays-show (labelOf text (c .before .before .before .before .before .before .before .before .before .before .before .before .before .args .label)) (c .before .before .before .before .before .before .before .before .before .before .before .before .before .args .numbers .now) (c .before .before .before .before .before .before .before .before .before .before .before .before .before .args .rows .now) (c .before .before .before .before .before .before .before .before .before .before .before .before .before .args .words .now) (c .before .before .show .last .1 .1 .1 .0) text (c .before .before .before .before .before .before .before .before .before .before .before .before .before .args .desk) (c .before .before .before .before .before .before .before .before .before .before .before .before .before .pre .0) (stretch (c .before .before .before .before .before .before .before .before .before .before .before .before .before .args .numbers .now) (span (c .before .before .before .before .before .before .before .before .before .before .before .before .before .args .desk .used) (c .before .before .before .before .before .before .before .before .before .before .before .before .before .args .desk .used + countOf (c .before .before .before .before .before .before .before .before .before .before .before .before .before .args .statement)))) (c .before .before .before .before .before .before .enum-told4 .given .1) (c .before .before .show .ensures .0) (c .before .before .show .ensures .1)
+returns-9 c = (λ text. plays-show (labelOf text (c .before .before .before .before .before .before .before .before .before .before .before .before .before .args .label)) (c .before .before .before .before .before .before .before .before .before .before .before .before .before .args .numbers .now) (c .before .before .before .before .before .before .before .before .before .before .before .before .before .args .rows .now) (c .before .before .before .before .before .before .before .before .before .before .before .before .before .args .words .now) (c .before .before .show .last .1 .1 .1 .0) text (c .before .before .before .before .before .before .before .before .before .before .before .before .before .args .desk) (c .before .before .before .before .before .before .before .before .before .before .before .before .before .pre .0) (stretch (c .before .before .before .before .before .before .before .before .before .before .before .before .before .args .numbers .now) (span (c .before .before .before .before .before .before .before .before .before .before .before .before .before .args .desk .used) (c .before .before .before .before .before .before .before .before .before .before .before .before .before .args .desk .used + countOf (c .before .before .before .before .before .before .before .before .before .before .before .before .before .args .statement)))) (c .before .before .before .before .before .before .enum-told4 .given .1) (c .before .before .show .ensures .0) (c .before .before .show .ensures .1), rw (c .before .before .before .before .before .before .enum-told4 .given .1))
 
 pub do-statement-spec : {M : Type 1} → statement M
 do-statement-spec =
