@@ -1,5 +1,5 @@
 -- "For an answer that is an enum, a definition gives this paper's number and values for each case."
-use Rattle.model.specs.Answers.{Verdict, refused, Answer, refusal, admitted, judged, pass, tree, ran, written}
+use Rattle.model.specs.Answers.{Answer, refusal, admitted, judged, pass, tree, ran, written}
 use Rattle.model.specs.Running.{mostCalls}
 use Rattle.answers.specs.declared.ContractFault.{ContractFault}
 use Rattle.answers.specs.declared.ContractFault.the-variants as contract

@@ -1,7 +1,7 @@
 // Blocks of facts in a kind that is held as six words, the last 0: blocks are read and put at any fact number free of
 // branches. A procedure of fewer parameters than the greatest count has narrower lanes than the nodes' words have.
 ghost use mathlib.Core.Path.{_≡_};
-ghost use Prim.Native.Nat.{ℕ, _+_, _*_, _-_, _^_, _<_, _≤_};
+ghost use Prim.Native.Nat.{_+_, _*_, _-_, _^_, _<_, _≤_};
 ghost use Rattle.kind_words.specs.Lanes.{Sized};
 ghost use Rattle.kind_words.specs.Blocks.{factsFrom, widened, narrowedLane, narrowed, withBlock};
 use lanes::lane;

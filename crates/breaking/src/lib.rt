@@ -1,6 +1,6 @@
 // What a kind says of its trees: whether they are of the input type, and whether they break the contract.
 ghost use mathlib.Core.Path.{_≡_};
-ghost use Prim.Native.Nat.{ℕ, _≤_};
+ghost use Prim.Native.Nat.{_≤_};
 ghost use lib.ListN.{length};
 ghost use Rattle.breaking.specs.Marked.{someMarked, IsOfInputType, IsWrongOutput, IsBreaking};
 

@@ -1,14 +1,13 @@
 -- Each refusal and the check, as the definition gives them.
-use mathlib.Core.Path.{_≡_, refl, ap, sym, _∙_}
+use mathlib.Core.Path.{_≡_, refl, _∙_}
 use mathlib.Core.List.{List}
 use Prim.Native.Nat.{ℕ, _<_, _≤_}
-use native.Mathlib.Omega.{arith}
 use lib.ListN.{length}
 use Rattle.foundation.specs.Search.{first}
 use Rattle.model.specs.Tables.{Contract}
 use Rattle.model.specs.Answers.{fine, Answer, refusal}
 use Rattle.model.specs.Admission.{admission, admit}
-use Rattle.model.specs.Checking.{Checked, limitWrong, check, checkingVerdict, checking}
+use Rattle.model.specs.Checking.{limitWrong, check, checkingVerdict, checking}
 use Rattle.model.proofs.Laws.Answers.{refuse-first-at, given-passed, given-stopped, given-refused}
 use Rattle.model.proofs.Rounds.Stopping.{checking-check}
 use Rattle.answers.specs.Numbers.{contractRefusal}

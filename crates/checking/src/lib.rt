@@ -1,6 +1,5 @@
 // Checking a contract: the answer, with the rows of the kinds and their words in the lent buffers.
 ghost use mathlib.Core.Path.{_≡_};
-ghost use mathlib.Core.Bool.{Bool};
 ghost use Prim.Native.Nat.{ℕ, _+_, _*_, _^_, _<_, _≤_};
 ghost use lib.ListN.{length, replicate};
 ghost use Rattle.foundation.specs.Words.{word, one-if};

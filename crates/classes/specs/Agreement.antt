@@ -1,6 +1,6 @@
 -- A symbol's kind over two kinds asks only for the facts that its rules call and the states that its input rows name: kinds
 -- that agree there give the same kind.
-use mathlib.Core.Path.{_≡_, refl, ap, ap₂, sym, _∙_}
+use mathlib.Core.Path.{_≡_, refl, ap, ap₂, _∙_}
 use mathlib.Core.List.{List, [], _∷_}
 use mathlib.Core.Bool.{Bool, true, false}
 use Prim.Native.Nat.{ℕ, suc, _<_}

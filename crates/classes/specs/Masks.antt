@@ -3,7 +3,7 @@
 use mathlib.Core.Path.{_≡_, refl, ap, sym, _∙_}
 use mathlib.Core.List.{List}
 use mathlib.Core.Bool.{Bool, true}
-use Prim.Native.Nat.{ℕ, suc, _+_, _*_, _/_, _%_, _^_, _<_, _≤_}
+use Prim.Native.Nat.{ℕ, suc, _+_, _*_, _/_, _%_, _^_, _<_}
 use native.Mathlib.Nat.{pow-suc, mul-comm}
 use native.Mathlib.Omega.{arith}
 use lib.Arith.{digits-lt}
@@ -20,7 +20,7 @@ use Rattle.model.specs.Facts.{onSide, offset, code, factNumber}
 use Rattle.model.specs.Kinds.{stateIn, bitOfFact, factsIn, nextKind}
 use Rattle.model.proofs.Laws.Established.{Established}
 use Rattle.model.proofs.Laws.Facts.{IsFact, code-lt, fact-number-lt}
-use Rattle.classes.specs.Agreement.{EachCall, SameSeen, next-kind-agree}
+use Rattle.classes.specs.Agreement.{EachCall, next-kind-agree}
 
 -- words that are the same under a mask have the same bits where the mask has one
 pub mask-bit : (x y m i : ℕ) → bitAnd x m ≡ bitAnd y m → bit m i ≡ true → bit x i ≡ bit y i

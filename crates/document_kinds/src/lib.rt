@@ -1,7 +1,7 @@
 // The kind of a document: the kinds of the trees that start at each of its places, from the last place to the first, without
 // recursion.
 ghost use mathlib.Core.Path.{_≡_};
-ghost use Prim.Native.Nat.{ℕ, _+_, _*_, _<_, _≤_};
+ghost use Prim.Native.Nat.{_+_, _*_, _<_, _≤_};
 ghost use lib.ListN.{length, replicate};
 ghost use Rattle.model.specs.Documents.{mostNumbers};
 ghost use Rattle.model.proofs.Laws.Documents.{Readable, treeFrom};

@@ -3,8 +3,7 @@
 -- Tests of table entries, which code computes with `&`, `|` and `!`, use the library's `_&&_`, `_||_` and `not` instead.
 use mathlib.Core.Path.{_≡_, refl, ap₂, subst, sym}
 use mathlib.Core.Bool.{Bool, true, false}
-use mathlib.Core.Logic.{_↔_}
-use Prim.Native.Nat.{ℕ, zero, suc, _<_, _≤_}
+use Prim.Native.Nat.{ℕ, zero, suc, _<_}
 use native.Mathlib.Nat.{not-suc-le-zero}
 use native.Mathlib.Omega.{arith}
 use native.Mathlib.Decide.{ℕ-discrete}

@@ -9,7 +9,7 @@ use borrow.Author.Tests.{eq-eqb, ne-eqb}
 use Rattle.model.specs.Tables.{Contract, contract}
 use Rattle.model.specs.Kinds.{kindOf, ofInputType, breaks}
 use Rattle.model.specs.Documents.{document, documentTree}
-use Rattle.model.specs.Answers.{Verdict, fine, refused, refuseIf, _then_, Answer, admitted, judged, refusal, given}
+use Rattle.model.specs.Answers.{fine, refuseIf, _then_, Answer, judged, refusal, given}
 use Rattle.model.specs.Admission.{admission, admit}
 use Rattle.model.specs.Judging.{Judged, judgement, judgingVerdict, judging}
 use Rattle.answers.specs.Numbers.{contractRefusal, documentRefusal}

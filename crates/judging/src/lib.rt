@@ -1,8 +1,7 @@
 // Judging a document: whether it is of the input type, and whether an output is outside the output type; the kind of its tree
 // is written.
 ghost use mathlib.Core.Path.{_≡_};
-ghost use mathlib.Core.List.{List};
-ghost use Prim.Native.Nat.{ℕ, _<_, _≤_};
+ghost use Prim.Native.Nat.{_<_, _≤_};
 ghost use lib.ListN.{length, take};
 ghost use Rattle.model.specs.Tables.{contract};
 ghost use Rattle.model.specs.Documents.{mostNumbers};

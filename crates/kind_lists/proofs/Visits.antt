@@ -1,11 +1,11 @@
 -- What the loops' functions need where they stand: room in the buffers, and what a visit comes to.
-use mathlib.Core.Path.{_≡_, refl, ap, ap₂, subst, sym, _∙_}
+use mathlib.Core.Path.{_≡_, ap₂, subst, _∙_}
 use mathlib.Core.List.{List, [], _∷_, _++_}
 use Prim.Native.Nat.{ℕ, zero, suc, _+_, _*_, _^_, _≤_, _<_}
 use native.Mathlib.Omega.{arith}
 use lib.ListN.{length, getD, take}
 use lib.Pow.{pow-pos}
-use Rattle.model.specs.Tables.{Contract, contract}
+use Rattle.model.specs.Tables.{Contract}
 use Rattle.model.specs.Kinds.{nextKind}
 use Rattle.model.specs.Rounds.{kindAutomaton, rounds}
 use Rattle.model.proofs.Rounds.Growth.{begins-length, rows-begin}

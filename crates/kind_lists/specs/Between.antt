@@ -1,27 +1,26 @@
 -- Between two rounds: what the buffers hold and what the marks say; how a round begins and ends, and when the list has ended.
-use mathlib.Core.Path.{_≡_, refl, ap, ap₂, subst, sym, _∙_}
-use mathlib.Core.List.{List, [], _∷_}
-use mathlib.Core.Bool.{Bool, true, false}
-use Prim.Native.Nat.{ℕ, zero, suc, _+_, _*_, _≤_, _<_}
+use mathlib.Core.Path.{_≡_, ap, subst, sym, _∙_}
+use mathlib.Core.List.{List}
+use mathlib.Core.Bool.{false}
+use Prim.Native.Nat.{ℕ, suc, _≤_, _<_}
 use native.Mathlib.Omega.{arith}
 use native.Mathlib.Decide.{decLt}
 use lib.ListN.{length, getD}
 use Rattle.foundation.specs.Words.{bit}
 use Rattle.model.specs.Tables.{Contract}
-use Rattle.model.specs.Expressions.{left, right}
 use Rattle.model.specs.Facts.{onSide}
 use Rattle.model.specs.Kinds.{nextKind}
-use Rattle.model.specs.Rounds.{kindAutomaton, ListedKind, kindAt, combinations, roundTo, round, rounds}
+use Rattle.model.specs.Rounds.{kindAutomaton, ListedKind, kindAt, roundTo, round, rounds}
 use Rattle.model.proofs.Laws.Established.{Established}
 use Rattle.classes.specs.Masks.{AgreeUnder, agree-self, class-agree}
 use Rattle.model.proofs.Rounds.Growth.{Begins, begins-length, begins-state, round-begins, rounds-beginning}
-use Rattle.model.proofs.Rounds.Places.{place, place-first, place-last}
-use Rattle.model.proofs.Rounds.Covering.{HasState, has-later, kinds-decided, round-lists}
+use Rattle.model.proofs.Rounds.Places.{place-first, place-last}
+use Rattle.model.proofs.Rounds.Covering.{HasState, kinds-decided, round-lists}
 use Rattle.model.proofs.Rounds.Listing.{Ended, adds-nothing}
 use Rattle.model.specs.Meaning.{NoneBreaks}
 use Rattle.model.proofs.Rounds.Buffers.{beginning-five}
 use Rattle.kind_lists.specs.Held.{kindIn, Holds, kind-held}
-use Rattle.kind_lists.specs.Steps.{Round, At, listAt}
+use Rattle.kind_lists.specs.Steps.{At, listAt}
 use Rattle.kind_lists.specs.Marks.{maskIn, agrees-under, MarksOf, MarkedFrom, Covered}
 
 module _ (C : Contract) where

@@ -1,16 +1,14 @@
 -- Buffers that hold a list of kinds: its rows and kinds from the front on, whatever stands after them.
-use mathlib.Core.Path.{_≡_, refl, ap, ap₂, subst, sym, _∙_}
+use mathlib.Core.Path.{_≡_, refl, ap, sym, _∙_}
 use mathlib.Core.List.{List, [], _∷_, _++_, append-assoc}
 use mathlib.Core.Bool.{Bool, true, false, _&&_}
 use Prim.Native.Nat.{ℕ, zero, suc, _+_, _*_, _≤_, _<_}
 use native.Mathlib.Nat.{not-suc-le-zero}
-use native.Mathlib.Numerals.{add-one}
 use native.Mathlib.Omega.{arith}
-use native.Mathlib.Decide.{ℕ-discrete, decLt}
 use borrow.Author.Tests.{ltb-true, ltb-false, eqb-true, eq-eqb}
-use lib.Dec.{T, eqb, ltb}
-use lib.ListN.{length, getD, take, drop, set, length-append, length-set, length-take, List·getD-append}
-use lib.Seq.{take-at, getD-take, getD-append-add, getD-append-seam, sets, sets-eq, length-sets, ext-getD}
+use lib.Dec.{eqb}
+use lib.ListN.{length, getD, take, drop, length-append, length-set, length-take, List·getD-append}
+use lib.Seq.{take-at, getD-take, getD-append-add, sets, sets-eq}
 use Rattle.foundation.specs.Lists.{append-nil}
 use Rattle.foundation.specs.Tests.{test-false}
 use Rattle.foundation.specs.Search.{first, first-hit, first-clear}
@@ -18,8 +16,8 @@ use Rattle.model.specs.Tables.{Contract}
 use Rattle.model.specs.Rounds.{kindAutomaton, ListedKind, kindAt, lists}
 use Rattle.model.specs.Checking.{rowNumbers, kindNumbers}
 use Rattle.model.proofs.Rounds.Covering.{HasState, lists-has, kinds-decided}
-use Rattle.model.proofs.Rounds.Buffers.{FiveWords, length-row-numbers, length-kind-numbers}
-use Rattle.kind_lists.specs.Listing.{sameKind, kindPlace, kindListed, withKind, withRow, paddedKind}
+use Rattle.model.proofs.Rounds.Buffers.{FiveWords}
+use Rattle.kind_lists.specs.Listing.{sameKind, kindPlace, kindListed, withKind, withRow}
 
 -- a list of five is its five numbers
 pub five : (l : List ℕ) → length l ≡ 5 → l ≡ getD l 0 0 ∷ getD l 1 0 ∷ getD l 2 0 ∷ getD l 3 0 ∷ getD l 4 0 ∷ []

@@ -1,6 +1,6 @@
 -- The list of kinds in the lent buffers: where a kind stands in it, and what becomes of a kind that is offered to it.
 use mathlib.Core.Bool.{Bool, true, false, not, _&&_}
-use mathlib.Core.List.{List, [], _∷_, _++_}
+use mathlib.Core.List.{List, [], _∷_}
 use mathlib.Core.Path.{_≡_}
 use Prim.Native.Nat.{ℕ, _+_, _*_, _≤_}
 use lib.Bits.{bitAnd}

@@ -1,29 +1,26 @@
 -- The start of a check: the kind of the empty forest is offered to the empty list.
-use mathlib.Core.Path.{_≡_, refl, ap, subst, sym, _∙_}
+use mathlib.Core.Path.{_≡_, refl, ap, sym, _∙_}
 use mathlib.Core.List.{List, [], _∷_, _++_}
 use mathlib.Core.Bool.{Bool, true, false}
-use Prim.Native.Nat.{ℕ, zero, suc, _+_, _*_, _≤_, _<_}
+use Prim.Native.Nat.{ℕ, _+_, _≤_}
 use native.Mathlib.Omega.{arith}
 use borrow.Author.Tests.{ne-eqb}
-use lib.ListN.{length, take, getD}
+use lib.ListN.{length}
 use Rattle.foundation.specs.Tests.{choose}
 use Rattle.foundation.specs.Search.{first}
 use Rattle.model.specs.Tables.{Contract}
 use Rattle.model.specs.Kinds.{emptyKind, breaks}
-use Rattle.model.specs.Rounds.{kindAutomaton, ListedKind, kindAt, rounds}
+use Rattle.model.specs.Rounds.{kindAutomaton, kindAt, rounds}
 use Rattle.model.specs.Checking.{rowNumbers, kindNumbers}
 use Rattle.model.proofs.Laws.Established.{Established}
 use Rattle.model.proofs.Rounds.Growth.{rounds-beginning}
-use Rattle.model.specs.Meaning.{NoneBreaks}
-use Rattle.model.proofs.Rounds.Buffers.{FiveWords, length-empty-kind}
-use Rattle.kind_lists.specs.Listing.{Room, kindPlace, kindListed, breaking, withRow, withKind, Offering, Becomes, offering}
+use Rattle.model.proofs.Rounds.Buffers.{length-empty-kind}
+use Rattle.kind_lists.specs.Listing.{Room, kindPlace, breaking, withRow, withKind, Offering, offering}
 use Rattle.kind_lists.specs.Held.{Holds, stored-held}
 use Rattle.kind_lists.specs.Verdicts.{VerdictsFor, breaking-is}
 use Rattle.kind_lists.specs.Steps.{progressOf, Outcome, Broken}
 use Rattle.kind_lists.specs.Between.{Between}
-use Rattle.kind_lists.specs.declared.listing.Offered.{Offered}
 use Rattle.kind_lists.specs.declared.listing.Offered.the-variants as offered
-use Rattle.kind_lists.specs.declared.loops.Progress.{Progress}
 
 module _ (C : Contract) (known : Established C) (accepted refused : ℕ) (verdicts : VerdictsFor C accepted refused) (limit : ℕ)
     (rows words lefts rights : List ℕ) (room : Room limit 0 rows words) (some : 1 ≤ limit) where

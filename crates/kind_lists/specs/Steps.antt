@@ -3,24 +3,24 @@
 use mathlib.Core.Path.{_≡_, refl, ap, subst, sym, _∙_}
 use mathlib.Core.List.{List, [], _∷_, _++_}
 use mathlib.Core.Bool.{Bool, true, false}
-use Prim.Native.Nat.{ℕ, zero, suc, _+_, _*_, _≤_, _<_}
+use Prim.Native.Nat.{ℕ, suc, _+_, _*_, _≤_, _<_}
 use native.Mathlib.Numerals.{add-one}
 use native.Mathlib.Omega.{arith}
-use native.Mathlib.Decide.{ℕ-discrete, decLt}
+use native.Mathlib.Decide.{ℕ-discrete}
 use borrow.Author.Tests.{eqb-true, eqb-false}
 use lib.Dec.{eqb}
-use lib.ListN.{length, getD, take, length-append, List·getD-append}
+use lib.ListN.{length, getD, length-append, List·getD-append}
 use lib.Seq.{getD-append-seam}
 use Rattle.foundation.specs.Tests.{choose}
 use Rattle.foundation.specs.Words.{bit}
 use Rattle.model.specs.Tables.{Contract}
 use Rattle.model.specs.Kinds.{nextKind, breaks}
-use Rattle.model.specs.Rounds.{kindAutomaton, ListedKind, kindAt, emptyRow, combinations, roundTo, round, rounds}
+use Rattle.model.specs.Rounds.{kindAutomaton, ListedKind, kindAt, emptyRow, combinations, roundTo, rounds}
 use Rattle.model.proofs.Laws.Established.{Established}
-use Rattle.model.proofs.Rounds.Growth.{Begins, begins-length, begins-state, added-old, added-new, Beginning, middle-beginning, rows-begin}
-use Rattle.model.proofs.Rounds.Places.{place, place-first, place-next-right, place-next-left, place-next-symbol, place-last, place-below}
+use Rattle.model.proofs.Rounds.Growth.{begins-length, begins-state, added-new, Beginning, middle-beginning, rows-begin}
+use Rattle.model.proofs.Rounds.Places.{place, place-next-left, place-next-symbol, place-below}
 use Rattle.model.proofs.Rounds.Covering.{HasState, has-later, kinds-decided}
-use Rattle.model.proofs.Rounds.Skipping.{step, skip-pair, skip-right, skip-left, added-listed, same-left-listed, same-right-listed, pairRow}
+use Rattle.model.proofs.Rounds.Skipping.{step, skip-pair, skip-right, skip-left, added-listed, same-left-listed, same-right-listed}
 use Rattle.model.specs.Meaning.{NoneBreaks}
 use Rattle.model.proofs.Rounds.Buffers.{FiveWords, beginning-five, length-next-kind}
 use Rattle.kind_lists.specs.Listing.{kindListed, breaking, withRow, withKind, Offering, Becomes, offering}

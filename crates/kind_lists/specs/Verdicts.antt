@@ -1,18 +1,18 @@
 -- What tells a breaking kind: a word of the input states that are accepted, and one of the output states that are not.
-use mathlib.Core.Path.{_≡_, refl, ap, ap₂, subst, sym, _∙_}
+use mathlib.Core.Path.{_≡_, refl, ap, ap₂, sym, _∙_}
 use mathlib.Core.List.{List, [], _∷_, _++_}
 use mathlib.Core.Bool.{Bool, true, false, not, _&&_}
-use Prim.Native.Nat.{ℕ, zero, suc, _+_, _*_, _/_, _%_, _^_, _≤_, _<_}
+use Prim.Native.Nat.{ℕ, _+_, _/_, _%_, _≤_, _<_}
 use native.Mathlib.Nat.{pow-zero, lt-of-le-of-lt}
 use native.Mathlib.Omega.{arith}
 use borrow.Author.Tests.{eq-eqb, ne-eqb}
 use lib.Bits.{bitAnd, and-le-r}
-use lib.Dec.{T, eqb}
+use lib.Dec.{eqb}
 use lib.ListN.{length, getD}
 use Rattle.foundation.specs.Tests.{_and_, same, someBelow, some-intro, some-elim, some-cong, and-left, and-right, and-both, test-true, true-test, test-false, false-test}
 use Rattle.foundation.specs.Words.{bit, word, bit-word, word-lt}
 use Rattle.foundation.specs.Bits.{bit-and, bit-zero, zero-bits}
-use Rattle.model.specs.Tables.{Contract, markAt, countOf}
+use Rattle.model.specs.Tables.{Contract, markAt}
 use Rattle.model.specs.Facts.{offset, code, factNumber}
 use Rattle.model.specs.Kinds.{stateIn, bitOfFact, factsIn, ofInputType, hasWrongOutput, breaks}
 use Rattle.model.proofs.Laws.Established.{Established}

@@ -1,7 +1,7 @@
 // The list of kinds as it stands in the lent buffers: three numbers and five words a row.
 ghost use mathlib.Core.Path.{_≡_};
-ghost use Prim.Native.Nat.{ℕ, _+_, _*_, _-_, _<_, _≤_};
-ghost use lib.ListN.{getD, length};
+ghost use Prim.Native.Nat.{_+_, _*_, _-_, _<_, _≤_};
+ghost use lib.ListN.{length};
 ghost use Rattle.kind_lists.specs.Listing.{sameKind, kindPlace, foundAt, kindListed, withKind, withRow, paddedKind, breaking, clearedFrom, offering, wasFound, Room, Becomes};
 ghost use mathlib.Core.Bool.{_&&_};
 ghost use lib.Dec.{ltb};

@@ -2,7 +2,7 @@
 // marked for a symbol where it is the first of its class.
 ghost use mathlib.Core.Path.{_≡_};
 ghost use mathlib.Core.Bool.{false, _&&_};
-ghost use Prim.Native.Nat.{ℕ, _+_, _*_, _^_, _<_, _≤_};
+ghost use Prim.Native.Nat.{_+_, _*_, _^_, _<_, _≤_};
 ghost use lib.ListN.{getD, length};
 ghost use Rattle.foundation.specs.Tests.{choose};
 ghost use Rattle.foundation.specs.Words.{bit};

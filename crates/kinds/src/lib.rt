@@ -3,7 +3,7 @@
 // What depends on the contract alone is prepared: the layout of its words, the procedures' offsets, and the table of lists: for
 // each symbol its rules, its input rows, and the nodes that its rules reach.
 ghost use mathlib.Core.Path.{_≡_};
-ghost use Prim.Native.Nat.{ℕ, _+_, _/_, _^_, _<_, _≤_};
+ghost use Prim.Native.Nat.{_+_, _/_, _^_, _<_, _≤_};
 ghost use lib.ListN.{length, replicate};
 ghost use Rattle.model.specs.Tables.{inputRow, inputRowCount, nodeCount, ruleAt, ruleCount};
 ghost use Rattle.kind_words.specs.Blocks.{narrowed, Words};

@@ -4,7 +4,7 @@ ghost use mathlib.Core.Path.{_≡_};
 ghost use Prim.Native.Nat.{ℕ, _<_, _≤_, max};
 ghost use lib.ListN.{length, getD};
 ghost use Rattle.model.specs.Tables.{countOf};
-ghost use Rattle.model.specs.Facts.{offset, factTotal};
+ghost use Rattle.model.specs.Facts.{offset};
 ghost use Rattle.numbering.specs.Counts.{SmallCounts};
 ghost use Rattle.kind_words.specs.Lanes.{Sized};
 ghost use Rattle.kind_words.specs.Kind.{LayoutFor};

@@ -1,8 +1,8 @@
 -- Text: blanks, comments, tokens and lines of a script. A text is the list of its bytes; a place is how many bytes stand
 -- before it; what stands from a place on is `rest`.
-use mathlib.Core.Bool.{Bool, true, false, _&&_, _||_, not}
+use mathlib.Core.Bool.{Bool, _&&_, _||_, not}
 use mathlib.Core.List.{List, [], _∷_}
-use Prim.Native.Nat.{ℕ, zero, suc, _+_}
+use Prim.Native.Nat.{ℕ, suc, _+_}
 use lib.Dec.{eqb}
 use Rattle.foundation.specs.Tests.{choose}
 

@@ -1,5 +1,4 @@
 -- Words: the bytes of the words that begin statements.
-use mathlib.Core.Bool.{Bool}
 use mathlib.Core.List.{List, [], _∷_}
 use Prim.Native.Nat.{ℕ}
 use Rattle.foundation.specs.Tests.{choose}

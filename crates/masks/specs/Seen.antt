@@ -22,7 +22,7 @@ use Rattle.model.specs.Facts.{onSide}
 use Rattle.model.proofs.Laws.Established.{Established}
 use Rattle.kind_words.specs.Chains.{NextFrom, or-first, or-next}
 use Rattle.classes.specs.Agreement.{EachCall, EachCallOfAll}
-use Rattle.classes.specs.Masks.{ShowsFacts, Covers}
+use Rattle.classes.specs.Masks.{ShowsFacts}
 use Rattle.kind_lists.specs.Marks.{maskIn, Covered}
 
 -- the side that a flag names

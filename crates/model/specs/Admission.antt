@@ -1,5 +1,5 @@
 -- Admission: the refusal's number and place as a function of whatever was handed in.
-use mathlib.Core.Bool.{Bool, true, false, _&&_, _||_, not}
+use mathlib.Core.Bool.{Bool, false, _&&_, _||_, not}
 use mathlib.Core.List.{List, [], _∷_}
 use Prim.Native.Nat.{ℕ, _+_, _*_, _-_, _%_}
 use lib.Dec.{eqb, ltb, leb}
@@ -8,7 +8,7 @@ use Rattle.foundation.specs.Tests.{choose}
 use Rattle.model.specs.Tables.{Contract, InputRow, inputRow, inputRowCount, Node, nodeAt, nodeCount, Rule, ruleAt, ruleCount, countOf, markAt}
 use Rattle.model.specs.Expressions.{expression, greatestParameter, holdsCall}
 use Rattle.model.specs.Facts.{factTotal}
-use Rattle.model.specs.Answers.{Verdict, fine, refused, refuseIf, refuseFirst, _then_, Answer, admitted, refusal, given}
+use Rattle.model.specs.Answers.{Verdict, refuseIf, refuseFirst, _then_, Answer, admitted, refusal, given}
 
 abbrev pub outside : (least most : ℕ) → ℕ → Bool
 outside least most n = ltb n least || ltb most n

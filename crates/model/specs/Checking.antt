@@ -1,5 +1,5 @@
 -- Checking a contract: the answer and the closing row and word buffers.
-use mathlib.Core.Bool.{Bool, true, false, not}
+use mathlib.Core.Bool.{Bool, false, not}
 use mathlib.Core.List.{List, [], _∷_, _++_}
 use Prim.Native.Nat.{ℕ, suc, _*_, min}
 use lib.Dec.{eqb, ltb}

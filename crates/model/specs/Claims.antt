@@ -1,13 +1,13 @@
 -- The words of demand 3, in which what the answers mean is stated.
 use mathlib.Core.Path.{_≡_}
-use mathlib.Core.List.{List, []}
-use Prim.Native.Nat.{ℕ, _*_, _-_, _<_, _≤_}
+use mathlib.Core.List.{[]}
+use Prim.Native.Nat.{ℕ, _*_, _-_, _<_}
 use lib.ListN.{length, take, drop, replicate}
-use Rattle.model.specs.Trees.{Tree, empty, node, height, Over}
-use Rattle.model.specs.Tables.{Contract, InputType, OutputType, inputRow, inputRowCount, markAt}
+use Rattle.model.specs.Trees.{Tree, empty, node, Over}
+use Rattle.model.specs.Tables.{Contract, InputType, inputRow, inputRowCount, markAt}
 use Rattle.model.specs.Outputs.{Output}
 use Rattle.model.specs.Facts.{stateOf}
-use Rattle.model.specs.Answers.{Verdict, fine}
+use Rattle.model.specs.Answers.{fine}
 use Rattle.model.specs.Admission.{admission}
 use Rattle.model.specs.Checking.{Checked}
 

@@ -5,7 +5,7 @@ use lib.Dec.{leb, eqb, ltb}
 use lib.ListN.{length, take}
 use Rattle.foundation.specs.Tests.{choose}
 use Rattle.model.specs.Trees.{Tree, empty, node}
-use Rattle.model.specs.Answers.{Verdict, fine, refused, refuseIf, _then_}
+use Rattle.model.specs.Answers.{Verdict, refused, refuseIf, _then_}
 
 -- "A document is its symbols in preorder, 1 to 1,023 numbers."
 abbrev pub mostNumbers : ℕ

@@ -1,11 +1,10 @@
 -- Expressions: the right sides of rules, as the nodes of a table stand for them.
-use mathlib.Core.Bool.{Bool, true, false, cond}
+use mathlib.Core.Bool.{Bool, true, false}
 use mathlib.Core.List.{List}
 use Prim.Native.Nat.{ℕ, zero, suc, _-_, max}
 use lib.Dec.{eqb}
-use lib.ListN.{getD}
 use Rattle.foundation.specs.Tests.{choose, _or_}
-use Rattle.model.specs.Tables.{Node, nodeAt, countOf, Transformation}
+use Rattle.model.specs.Tables.{Node, nodeAt, countOf}
 
 -- the child that a call goes to
 pub data Child : Type 0 where

@@ -1,5 +1,4 @@
 -- Rounds: the states that a bottom-up tree automaton reaches, listed in rounds. Kinds are such states.
-use mathlib.Core.Path.{_≡_}
 use mathlib.Core.List.{List, [], _∷_, _++_}
 use mathlib.Core.Bool.{Bool, true, false}
 use Prim.Native.Nat.{ℕ, zero, suc, _+_, _*_, _-_, _/_, _%_}

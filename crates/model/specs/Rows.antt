@@ -1,5 +1,5 @@
 -- Rows: a table of rows (symbol, left, right), three numbers each, and the tree that a row stands for.
-use mathlib.Core.Bool.{Bool, true, false}
+use mathlib.Core.Bool.{true, false}
 use mathlib.Core.List.{List}
 use Prim.Native.Nat.{ℕ, zero, suc, _+_, _*_, _/_}
 use lib.Dec.{eqb}

@@ -1,5 +1,4 @@
 -- The tables of a contract, each tuple read by name.
-use mathlib.Core.Bool.{Bool}
 use mathlib.Core.List.{List}
 use Prim.Native.Nat.{ℕ, _+_, _*_, _-_, _/_}
 use lib.ListN.{length, getD}

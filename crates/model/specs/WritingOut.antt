@@ -1,11 +1,11 @@
 -- Writing out a row's tree: the answer and the closing buffer.
-use mathlib.Core.Bool.{Bool, true, false, not, _&&_, _||_}
+use mathlib.Core.Bool.{Bool, not, _&&_, _||_}
 use mathlib.Core.List.{List, _++_}
 use Prim.Native.Nat.{ℕ}
 use lib.Dec.{eqb, ltb, leb}
 use lib.ListN.{length, drop}
 use Rattle.foundation.specs.Tests.{choose}
-use Rattle.model.specs.Trees.{Tree, preorder}
+use Rattle.model.specs.Trees.{preorder}
 use Rattle.model.specs.Rows.{Row, rowAt, rowCount, treeAt}
 use Rattle.model.specs.Answers.{Verdict, refuseIf, refuseFirst, _then_, Answer, written, refusal, given}
 use Rattle.model.specs.Running.{rowsWrong}

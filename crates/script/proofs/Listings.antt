@@ -1,6 +1,6 @@
 -- Listings: a list of numbers read one by one. What was read stands at the beginning of the buffer, and the whole list is
 -- that followed by the list from the place reached.
-use mathlib.Core.Path.{_≡_, refl, ap, ap₂, sym, _∙_}
+use mathlib.Core.Path.{_≡_, refl, ap, sym, _∙_}
 use mathlib.Core.Bool.{Bool}
 use mathlib.Core.List.{List, [], _∷_, _++_, append-assoc}
 use Prim.Native.Nat.{ℕ, zero, suc, _+_, _-_, _≤_, _<_}
@@ -9,11 +9,10 @@ use native.Mathlib.Omega.{arith}
 use lib.ListN.{length, take, drop, set, length-set, take-append-drop}
 use lib.Seq.{length-take-le, take-suc-set, drop-set-lt, drop-drop}
 use Rattle.foundation.specs.Lists.{append-nil}
-use Rattle.script.specs.Spans.{fault, aheadAt, Ending, ended, faulty, Listing, more, listingOf, listing, numbersBy, numbersOf, overwritten}
+use Rattle.script.specs.Spans.{fault, aheadAt, Ending, ended, faulty, Listing, more, listing, numbersBy, numbersOf, overwritten}
 use Rattle.script.specs.declared.spans.Span.{Span}
 use Rattle.script.specs.declared.spans.Fault.{Fault}
 use Rattle.script.specs.declared.spans.Expected.the-variants as expected
-use Rattle.script.specs.declared.spans.Ahead.{Ahead}
 use Rattle.script.specs.declared.spans.Ahead.the-variants as ahead
 
 abbrev pub nothing : Ending → Listing

@@ -1,7 +1,6 @@
 -- Examples: small scripts and what they print, computed from the definition.
 use mathlib.Core.Path.{_≡_, refl}
-use mathlib.Core.List.{List, [], _∷_}
-use Prim.Native.Nat.{ℕ}
+use mathlib.Core.List.{[], _∷_}
 use Rattle.foundation.specs.Lists.{sameList, zeroFilled}
 use Rattle.foundation.specs.Tests.{same, _and_}
 use Rattle.foundation.specs.Search.{first}

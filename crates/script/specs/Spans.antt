@@ -1,6 +1,6 @@
 -- Spans: the stretch of the next token from a place on, and numbers that stand there. A text may be cut: the script then
 -- goes on behind it, and a token that reaches its end is not read.
-use mathlib.Core.Bool.{Bool, true, false, _&&_}
+use mathlib.Core.Bool.{Bool, false, _&&_}
 use mathlib.Core.List.{List, [], _∷_, _++_}
 use Prim.Native.Nat.{ℕ, zero, suc, _-_}
 use lib.Dec.{leb}

@@ -3,8 +3,7 @@
 // An input state, an output state, a procedure and a symbol are each a type of their own, so that code that hands one
 // where another is due does not build. A size (how many symbols there are) and a node or row number are plain numbers.
 ghost use mathlib.Core.Path.{_≡_};
-ghost use Prim.Native.Nat.{ℕ, _/_, _<_};
-ghost use lib.ListN.{length};
+ghost use Prim.Native.Nat.{_<_};
 ghost use Rattle.model.specs.Rows.{rowAt, rowCount};
 ghost use Rattle.model.specs.Tables.{inputRow, inputRowCount, nodeAt, nodeCount, ruleAt, ruleCount};
 ghost use Rattle.tables.specs.Tuples.{inputRowOf, nodeOf, ruleOf, rowOf};

@@ -1,8 +1,7 @@
 -- X1 to X8 and X12 of document 01, its sizes and its false readings, as one table; the checker computes every answer of it.
 use mathlib.Core.Path.{_≡_, refl}
-use mathlib.Core.List.{List, [], _∷_, _++_, map}
+use mathlib.Core.List.{List, [], _∷_, map}
 use Prim.Native.Nat.{ℕ, _*_}
-use lib.ListN.{replicate}
 use Rattle.foundation.specs.Tests.{_and_, _or_, same, below, someBelow}
 use Rattle.foundation.specs.Search.{first}
 use Rattle.foundation.specs.Words.{bit, word}
@@ -14,15 +13,15 @@ use Rattle.model.specs.Tables.{Contract}
 use Rattle.model.specs.Expressions.{expressionOf, expressionBelow, expression, greatestParameter, holdsCall}
 use Rattle.model.specs.Answers.{_then_, refuseIf, refuseFirst, given, Answer, admitted, judged, pass, tree, ran, written, refusal}
 use Rattle.model.specs.Admission.{sizes, lengths, inputRows, entries, counts, nodes, rules, facts, admission, admit}
-use Rattle.model.specs.Facts.{yields, yieldsAll, factsAt, fact, digits, code, offset, factNumber, numberedFrom, numbered}
+use Rattle.model.specs.Facts.{yields, factsAt, fact, digits, code, offset, factNumber, numberedFrom, numbered}
 use Rattle.model.specs.Kinds.{reachedEmpty, reachedNext, kindWords, stateIn, bitOfFact, factsIn, emptyKind, nextKind, kindOf, ofInputType, hasWrongOutput, breaks}
 use Rattle.model.specs.Rounds.{lists, added, roundTo, round, listingFrom, listing}
 use Rattle.model.specs.Judging.{judgement, judgingVerdict, judging}
 use Rattle.model.specs.Checking.{rowNumbers, kindNumbers, standing, firstBreaking, answered, check, checkingVerdict, checking}
-use Rattle.model.specs.Running.{_after_, addRow, countCall, seekRule, evaluate, evaluateAll, runAt, runOn, run, closing, runningVerdict, running}
+use Rattle.model.specs.Running.{_after_, addRow, countCall, seekRule, evaluate, runAt, runOn, run, closing, runningVerdict, running}
 use Rattle.model.specs.WritingOut.{writingVerdict, writingOut}
 use Rattle.worked_table.specs.Questions
-use Rattle.worked_table.specs.Questions.{Question, Reply, ask, lent}
+use Rattle.worked_table.specs.Questions.{Question, Reply, ask}
 use Rattle.worked_table.specs.Contracts.{C1, C2, C3, Sized, Silent, OneChoice, OneChild, LateSymbol}
 
 pub record Case : Type 0 where

@@ -7,12 +7,12 @@ use native.Mathlib.Omega.{arith}
 use lib.ListN.{length, replicate}
 use Rattle.foundation.specs.Lists.{zeroFilled}
 use Rattle.model.specs.Tables.{Contract}
-use Rattle.model.specs.Answers.{Verdict, fine, refused, Answer, pass, tree, refusal, given}
-use Rattle.model.specs.Checking.{Checked, rowNumbers, kindNumbers, standing, limitWrong, check, checkingVerdict, checking}
-use Rattle.model.specs.Meaning.{Lent, checkOf, PassMeans, FirstBreaks, StopMeans, OneOfThree, is-pass, is-tree, is-stop, CheckMeans}
+use Rattle.model.specs.Answers.{Verdict, fine, refused, Answer, pass, tree, refusal}
+use Rattle.model.specs.Checking.{Checked, rowNumbers, kindNumbers, standing, limitWrong, checkingVerdict, checking}
+use Rattle.model.specs.Meaning.{Lent, checkOf, OneOfThree, is-pass, is-tree, is-stop, CheckMeans}
 use Rattle.model.proofs.Laws.Answers.{then-fine-left, then-fine-right, refuse-first-fine, given-refused, NumbersTo, then-numbers, refuse-first-numbers}
 use Rattle.model.proofs.Laws.Admitted.{admission-numbers}
-use Rattle.model.proofs.Meaning.Answers.{pass-not-tree, pass-not-refusal, tree-not-refusal}
+use Rattle.model.proofs.Meaning.Answers.{pass-not-refusal, tree-not-refusal}
 use Rattle.model.proofs.Meaning.Checks.{check-meaning}
 use Rattle.checking.specs.Calls.{Call, returned, LetIn, NotRefused, CallMeans}
 use Rattle.checking.proofs.Sizes.{room-clear, row-clear}

@@ -1,6 +1,6 @@
 -- Demand 3 for calls: what the answers and closing buffers of two calls have to do with each other.
 use mathlib.Core.Path.{_≡_}
-use Prim.Native.Nat.{ℕ, suc, _≤_}
+use Prim.Native.Nat.{ℕ, suc}
 use Rattle.model.specs.Tables.{Contract}
 use Rattle.model.specs.Answers.{Answer, pass, tree}
 use Rattle.model.specs.Checking.{checking}

@@ -1,6 +1,4 @@
 -- The bit of a state is above the word of the states below it.
-use mathlib.Core.Path.{ap, _∙_}
-use Prim.Native.Nat.{ℕ, _+_}
 use native.Mathlib.Omega.{arith}
 use borrow.Author.Needs.{needs}
 use Rattle.checking.proofs.MarkWords.{power-fits, power-kept, plus-bit, plus-none}

@@ -1,6 +1,6 @@
 -- One less than the width is shifted, as the width may be 64; doubling and adding one makes up for it.
 use mathlib.Core.Path.{_≡_, ap, sym, _∙_}
-use Prim.Native.Nat.{ℕ, suc, _+_, _*_, _-_, _^_, _<_, _≤_}
+use Prim.Native.Nat.{ℕ, _+_, _*_, _-_, _^_}
 use native.Mathlib.Nat.{pow-suc}
 use native.Mathlib.Omega.{arith}
 use Rattle.masks.specs.Calls.{ones-double, ones-room, square-small, width-between}

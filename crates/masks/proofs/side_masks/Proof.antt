@@ -1,7 +1,7 @@
 -- Invariant: the masks of the symbols below s show what those can see. Measure: the symbols left.
 use mathlib.Core.Path.{_≡_, ap, sym, subst, _∙_}
 use mathlib.Core.List.{List}
-use Prim.Native.Nat.{ℕ, _+_, _-_, _≤_, _<_}
+use Prim.Native.Nat.{ℕ, _+_, _-_, _≤_}
 use native.Mathlib.Omega.{arith}
 use Rattle.model.specs.Tables.{Contract, contract}
 use Rattle.masks.specs.Seen.{AllSee, stored, see-more, see-none}

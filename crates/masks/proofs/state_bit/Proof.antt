@@ -1,9 +1,9 @@
 -- By the definition: a row for the symbol gives its state's bit, another row nothing.
-use mathlib.Core.Path.{_≡_, ap, sym, _∙_}
+use mathlib.Core.Path.{ap, _∙_}
 use Prim.Native.Nat.{ℕ, _*_, _^_, _<_}
 use borrow.Author.Tests.{eq-eqb, ne-eqb}
 use Rattle.lanes.proofs.Room.{one-up}
-use Rattle.masks.specs.Seen.{stateOn, stateBit}
+use Rattle.masks.specs.Seen.{stateBit}
 use borrow.Author.Needs.{needs}
 use Rattle.masks.proofs.state_bit.Statement.{statement}
 use Rattle.masks.proofs.state_bit.Tie as tie

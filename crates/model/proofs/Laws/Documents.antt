@@ -14,7 +14,7 @@ use lib.Seq.{drop-cons, take-length, take-append-seam, drop-append-seam, drop-dr
 use Rattle.foundation.specs.Tests.{choose}
 use Rattle.foundation.specs.Lists.{append-nil}
 use Rattle.model.specs.Trees.{Tree, empty, node, height, Over, preorder}
-use Rattle.model.specs.Answers.{Verdict, fine, refused, refuseIf, _then_}
+use Rattle.model.specs.Answers.{fine, refuseIf, _then_}
 use Rattle.model.specs.Documents.{mostNumbers, joined, forest, firstTree, Leading, ends, faulty, leadingFrom, leading, treeOf, documentTree, wholeTree, document}
 use Rattle.model.proofs.Laws.Answers.{refused-not-fine, refuse-if-fine, then-fine}
 

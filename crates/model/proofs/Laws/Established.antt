@@ -2,12 +2,12 @@
 use mathlib.Core.Path.{_≡_}
 use mathlib.Core.Bool.{false}
 use mathlib.Core.List.{List}
-use Prim.Native.Nat.{ℕ, _+_, _*_, _-_, _<_, _≤_}
+use Prim.Native.Nat.{ℕ, _*_, _-_, _<_, _≤_}
 use lib.ListN.{length, getD}
 use Rattle.model.specs.Tables.{Contract, InputRow, inputRow, inputRowCount, Node, nodeAt, nodeCount, Rule, ruleAt, ruleCount, countOf, markAt}
 use Rattle.model.specs.Expressions.{expression, greatestParameter, holdsCall}
 use Rattle.model.specs.Facts.{factTotal}
-use Rattle.model.specs.Admission.{tableLength, references}
+use Rattle.model.specs.Admission.{tableLength}
 
 -- a number from least to most
 pub record Between (least most n : ℕ) : Type 0 where

@@ -1,15 +1,14 @@
 -- What a node stands for, by its tag, over the expressions of the nodes below it; and equations for what admission asks of it.
 use mathlib.Core.Path.{_≡_, refl, ap, sym, _∙_}
 use mathlib.Core.List.{List}
-use mathlib.Core.Bool.{Bool, true, false}
-use Prim.Native.Nat.{ℕ, zero, suc, _<_, _≤_, _-_, max}
+use Prim.Native.Nat.{ℕ, zero, suc, _<_, _≤_, _-_}
 use native.Mathlib.Nat.{not-suc-le-zero}
 use native.Mathlib.Omega.{arith}
 use native.Mathlib.Decide.{ℕ-discrete}
 use borrow.Author.Tests.{eq-eqb, ne-eqb}
 use Rattle.foundation.specs.Tests.{_or_}
-use Rattle.model.specs.Tables.{Node, nodeAt, countOf}
-use Rattle.model.specs.Expressions.{Expression, parameter, nothing, symbol, call, Arguments, none, argument, childOf, argumentsOf, expressionOf, expressionBelow, expression, greatestParameter, greatestOfAll, holdsCall}
+use Rattle.model.specs.Tables.{nodeAt, countOf}
+use Rattle.model.specs.Expressions.{parameter, nothing, symbol, call, Arguments, childOf, argumentsOf, expressionOf, expressionBelow, expression}
 
 module _ (counts nodes : List ℕ) where
   below-self : (n : ℕ) → expressionBelow counts nodes (suc n) n ≡ expressionOf counts (expressionBelow counts nodes n) (nodeAt nodes n)

@@ -1,13 +1,12 @@
 -- The tree of a row, over the trees of its two rows; more rows at the end change no tree.
 use mathlib.Core.Path.{_≡_, refl, ap, sym, _∙_}
 use mathlib.Core.List.{List, _++_}
-use mathlib.Core.Bool.{Bool, true, false}
 use Prim.Native.Nat.{ℕ, zero, suc, _+_, _*_, _<_, _≤_}
 use native.Mathlib.Nat.{not-suc-le-zero}
 use native.Mathlib.Omega.{arith}
 use native.Mathlib.Decide.{ℕ-discrete}
 use borrow.Author.Tests.{eq-eqb, ne-eqb}
-use lib.ListN.{length, getD, List·getD-append}
+use lib.ListN.{length, List·getD-append}
 use Rattle.model.specs.Trees.{Tree, empty, node}
 use Rattle.model.specs.Rows.{Row, rowAt, treeOfRow, treeBelow, treeAt}
 

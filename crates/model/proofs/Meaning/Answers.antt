@@ -3,13 +3,13 @@ use mathlib.Core.Path.{_≡_, ap, sym, _∙_}
 use mathlib.Core.List.{List, []}
 use mathlib.Core.Logic.{_↔_}
 use mathlib.Core.Bool.{true}
-use Prim.Native.Nat.{ℕ, suc, _<_, _≤_}
+use Prim.Native.Nat.{ℕ, suc, _<_}
 use native.Mathlib.Omega.{arith}
 use lib.Dec.{T}
 use lib.ListN.{length, take}
 use lib.Seq.{length-take-le}
 use Rattle.foundation.specs.Tests.{test-true, true-test, test-false, false-test}
-use Rattle.model.specs.Trees.{Tree, height}
+use Rattle.model.specs.Trees.{Tree}
 use Rattle.model.specs.Rows.{treeAt}
 use Rattle.model.specs.Tables.{Contract}
 use Rattle.model.specs.Answers.{Answer, tree, pass, refusal}
@@ -17,7 +17,7 @@ use Rattle.model.specs.Kinds.{kindOf, breaks}
 use Rattle.model.specs.Rounds.{kindAutomaton, ListedKind, kindAt}
 use Rattle.model.specs.Checking.{Checked, standing, check}
 use Rattle.model.specs.Claims.{Breaks}
-use Rattle.model.specs.Meaning.{TreeOf, KindCount, MoreKinds, kindRounds, NoneBreaks, FirstKeep, FirstBreaks, NoTreeBreaks, PassMeans, LeastBreaking, StopMeans}
+use Rattle.model.specs.Meaning.{TreeOf, kindRounds, NoneBreaks, FirstBreaks, NoTreeBreaks, PassMeans, LeastBreaking, StopMeans}
 use Rattle.model.proofs.Rounds.Growth.{rounds-beginning, agree-state, take-begins}
 use Rattle.model.proofs.Rounds.Covering.{treeState, kind-state, kinds-decided, HasState, ended-lists}
 use Rattle.model.proofs.Rounds.RowTrees.{rowTree, row-tree-begins, StandsFor, rounds-stand-for}

@@ -1,7 +1,6 @@
 -- A check as it is called, with a limit and lent buffers, and what its answer means.
 use mathlib.Core.Path.{_≡_}
 use mathlib.Core.Logic.{_↔_}
-use Prim.Native.Nat.{ℕ}
 use lib.Dec.{T}
 use Rattle.model.specs.Trees.{Tree}
 use Rattle.model.specs.Tables.{Contract}

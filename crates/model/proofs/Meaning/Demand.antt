@@ -1,7 +1,6 @@
 -- Demand 3: what the answers of two checks, or of a check under two limits, have to do with each other.
 use mathlib.Core.Path.{_≡_, refl, ap, subst, sym, _∙_}
 use mathlib.Core.List.{List, []}
-use mathlib.Core.Logic.{_↔_}
 use Prim.Native.Nat.{ℕ, suc, _≤_}
 use native.Mathlib.Omega.{arith}
 use lib.Dec.{T}
@@ -12,12 +11,11 @@ use Rattle.model.specs.Rows.{treeAt}
 use Rattle.model.specs.Tables.{Transformation, Contract}
 use Rattle.model.specs.Outputs.{Output}
 use Rattle.model.specs.Answers.{Answer, tree, pass}
-use Rattle.model.specs.Kinds.{kindOf, breaks}
 use Rattle.model.specs.Rounds.{kindAutomaton, ListedKind}
 use Rattle.model.specs.Checking.{Checked, rowNumbers, kindNumbers, standing, check}
-use Rattle.model.specs.Claims.{Breaks, Admitted, OneTransformation, SameButMarks, Within, SameKinds}
-use Rattle.model.specs.Meaning.{TreeOf, kindRounds, LeastBreaking, Lent, checkOf}
-use Rattle.model.specs.Demand.{Inclusion, SameAnswer, Demand}
+use Rattle.model.specs.Claims.{Breaks, Admitted, OneTransformation, SameButMarks, Within}
+use Rattle.model.specs.Meaning.{TreeOf, kindRounds, LeastBreaking}
+use Rattle.model.specs.Demand.{SameAnswer, Demand}
 use Rattle.model.proofs.Rounds.Growth.{Beginning, rounds-beginning, take-beginning}
 use Rattle.model.proofs.Rounds.Listing.{ended-stays}
 use Rattle.model.proofs.Rounds.Stopping.{Ending, shows, passes, stops, check-ends, check-tree, check-pass}

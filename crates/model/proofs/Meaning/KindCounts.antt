@@ -4,11 +4,10 @@ use mathlib.Core.List.{List, map}
 use Prim.Native.Nat.{ℕ, _<_, _≤_}
 use native.Mathlib.Omega.{arith}
 use lib.ListN.{length, getD, length-map, List·getD-map}
-use Rattle.model.specs.Trees.{Tree, Over}
 use Rattle.model.specs.Tables.{Contract}
-use Rattle.model.specs.Kinds.{kindOf, emptyKind}
+use Rattle.model.specs.Kinds.{emptyKind}
 use Rattle.model.specs.Rounds.{kindAutomaton, ListedKind, kindAt, emptyRow}
-use Rattle.model.specs.Meaning.{TreeOf, TreeKinds, KindCount, MoreKinds, kindRounds}
+use Rattle.model.specs.Meaning.{TreeKinds, KindCount, MoreKinds, kindRounds}
 use Rattle.model.proofs.Rounds.Covering.{treeState, kind-state, kinds-decided, HasState, ended-lists}
 use Rattle.model.proofs.Rounds.Distinct.{rounds-distinct}
 use Rattle.model.proofs.Rounds.RowTrees.{rowTree, StandsFor, rounds-stand-for}

@@ -14,7 +14,7 @@ use Rattle.model.specs.Tables.{Contract}
 use Rattle.model.specs.Answers.{fine, _then_, refuseFirst, refuseIf, given, tree, pass, refusal}
 use Rattle.model.specs.Admission.{admission}
 use Rattle.model.specs.Kinds.{breaks}
-use Rattle.model.specs.Rounds.{kindAutomaton, emptyRow, ListedKind, kindAt, rounds}
+use Rattle.model.specs.Rounds.{kindAutomaton, emptyRow, ListedKind, kindAt}
 use Rattle.model.specs.Checking.{greatestLimit, Checked, standing, firstBreaking, answered, check, limitWrong, checkingVerdict, checking}
 use Rattle.model.specs.Meaning.{kindRounds, NoneBreaks, Fits}
 use Rattle.model.proofs.Rounds.Growth.{Begins, begins-state, Beginning, agree-state, agree-take, rounds-beginning}

@@ -1,6 +1,6 @@
 -- `running::run_document` meets its contract: the outcome of calling procedure 0 at place 0 is the run's step, and clearing and
 -- answering are what closing does with it.
-use mathlib.Core.Path.{_≡_, ap, ap₂, sym, _∙_}
+use mathlib.Core.Path.{_≡_, ap, ap₂, _∙_}
 use Prim.Native.Nat.{ℕ, _/_}
 use native.Mathlib.Omega.{arith}
 use lib.ListN.{length, take}

@@ -1,9 +1,9 @@
 -- The loop's invariant: no row before j has the kind. The measure is the number of rows left.
-use mathlib.Core.Path.{_≡_, refl, ap, sym, _∙_}
-use mathlib.Core.Bool.{Bool, false}
-use Prim.Native.Nat.{ℕ, _+_, _≤_, _<_, _-_}
+use mathlib.Core.Path.{_≡_, sym, _∙_}
+use mathlib.Core.Bool.{false}
+use Prim.Native.Nat.{ℕ, _≤_, _<_, _-_}
 use native.Mathlib.Omega.{arith}
-use Rattle.kind_lists.specs.Listing.{sameKind, kindPlace, foundAt}
+use Rattle.kind_lists.specs.Listing.{sameKind, kindPlace}
 use Rattle.kind_lists.proofs.Places.{found-hit, found-none, below-more, below-all}
 use Rattle.kind_lists.proofs.listing.find_kind.Statement.{statement}
 use Rattle.kind_lists.proofs.listing.find_kind.Tie as tie

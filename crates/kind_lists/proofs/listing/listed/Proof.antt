@@ -1,5 +1,5 @@
 -- A right hint is a row that has the kind; after a wrong one the search decides.
-use mathlib.Core.Path.{_≡_, ap, sym, _∙_}
+use mathlib.Core.Path.{ap, sym, _∙_}
 use Rattle.kind_lists.specs.Listing.{kindPlace, wasFound}
 use Rattle.kind_lists.proofs.Places.{hint-listed, was-found}
 use borrow.Author.Needs.{needs}

@@ -1,5 +1,5 @@
 -- By the arms: what each answer comes to is said by the cases of `offering`.
-use mathlib.Core.Path.{_≡_, refl, sym, _∙_}
+use mathlib.Core.Path.{refl, sym, _∙_}
 use mathlib.Core.Bool.{true, false}
 use Rattle.kind_lists.proofs.Offers.{offer-old, offer-full, offer-stored}
 use Rattle.kind_lists.specs.declared.listing.Offered.the-variants as offered

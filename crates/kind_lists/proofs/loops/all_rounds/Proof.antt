@@ -1,7 +1,7 @@
 -- The loop's invariant: the buffers hold the rows of some rounds, of which those below `before` are marked. The measure is the
 -- limit less `before`, which grows with each round.
 use mathlib.Core.Path.{_≡_, sym, _∙_}
-use Prim.Native.Nat.{_-_, _≤_, _<_}
+use Prim.Native.Nat.{_-_, _≤_}
 use native.Mathlib.Omega.{arith}
 use lib.ListN.{length}
 use Rattle.model.specs.Tables.{contract}

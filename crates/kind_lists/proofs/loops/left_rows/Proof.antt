@@ -1,9 +1,9 @@
 -- The loop's invariant: the loops stand before row `left` and all right rows. The measure is the number of left rows left.
-use mathlib.Core.Path.{_≡_, refl, sym, _∙_}
-use Prim.Native.Nat.{ℕ, _+_, _-_, _≤_, _<_}
+use mathlib.Core.Path.{refl, sym, _∙_}
+use Prim.Native.Nat.{_-_, _≤_}
 use native.Mathlib.Omega.{arith}
 use Rattle.model.specs.Tables.{contract}
-use Rattle.kind_lists.specs.Steps.{At, Outcome, next-symbol}
+use Rattle.kind_lists.specs.Steps.{At, next-symbol}
 use Rattle.kind_lists.proofs.Visits.{at-room, at-stood}
 use Rattle.kind_lists.proofs.Stops.{ends, goes, kept-lengths}
 use Rattle.kind_lists.proofs.loops.left_rows.Statement.{statement}

@@ -1,10 +1,10 @@
 -- The loop's invariant: the loops stand before the symbol and all its pairs. The measure is the number of symbols left. The
 -- loop's test is read as arithmetic finds it, alone or as the first of two.
-use mathlib.Core.Path.{_≡_, refl, sym, _∙_}
-use Prim.Native.Nat.{ℕ, _+_, _-_, _≤_, _<_}
+use mathlib.Core.Path.{sym, _∙_}
+use Prim.Native.Nat.{_-_, _≤_}
 use native.Mathlib.Omega.{arith}
 use Rattle.model.specs.Tables.{contract}
-use Rattle.kind_lists.specs.Steps.{At, Outcome}
+use Rattle.kind_lists.specs.Steps.{At}
 use Rattle.kind_lists.proofs.Visits.{at-room}
 use Rattle.kind_lists.proofs.Stops.{ends, goes, kept-lengths, at-symbol, first-below}
 use Rattle.kind_lists.proofs.loops.one_round.Statement.{statement}

@@ -1,12 +1,11 @@
 -- The loop's invariant: the loops stand before row `right`. The measure is the number of right rows left.
 use Rattle.kind_lists.proofs.Visits.{at-room, at-stood}
 use Rattle.kind_lists.proofs.Stops.{ends, goes, kept-lengths, at-right}
-use mathlib.Core.Path.{_≡_, refl, sym, _∙_}
-use Prim.Native.Nat.{ℕ, _+_, _-_, _≤_, _<_}
+use mathlib.Core.Path.{sym, _∙_}
+use Prim.Native.Nat.{_-_, _≤_}
 use native.Mathlib.Omega.{arith}
-use lib.ListN.{length}
 use Rattle.model.specs.Tables.{contract}
-use Rattle.kind_lists.specs.Steps.{At, Outcome}
+use Rattle.kind_lists.specs.Steps.{At}
 use Rattle.kind_lists.proofs.loops.right_rows.Statement.{statement}
 use Rattle.kind_lists.proofs.loops.right_rows.Tie as tie
 

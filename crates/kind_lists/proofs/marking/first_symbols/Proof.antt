@@ -2,7 +2,7 @@
 -- symbols left.
 use mathlib.Core.Path.{_≡_}
 use mathlib.Core.Bool.{false}
-use Prim.Native.Nat.{ℕ, _+_, _-_, _≤_, _<_}
+use Prim.Native.Nat.{ℕ, _-_, _≤_, _<_}
 use native.Mathlib.Omega.{arith}
 use Rattle.foundation.specs.Words.{bit}
 use Rattle.kind_lists.specs.Listing.{paddedKind}

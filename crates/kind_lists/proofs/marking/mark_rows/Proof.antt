@@ -1,5 +1,5 @@
 -- The loop's invariant: the rows from `before` to j are marked. The measure is the number of rows left.
-use Prim.Native.Nat.{_+_, _-_, _≤_, _<_}
+use Prim.Native.Nat.{_-_, _≤_}
 use native.Mathlib.Omega.{arith}
 use Rattle.kind_lists.specs.Marks.{MarkedFrom}
 use Rattle.kind_lists.proofs.MarkBits.{none-marked, marked-more, all-marked}

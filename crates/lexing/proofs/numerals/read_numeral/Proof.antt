@@ -1,6 +1,6 @@
 -- `read_numeral` meets its contract. The invariant: the token is the numeral that its value and the digits left make.
 -- The measure is what is left of the token. A turn of the loop is one step of the definition.
-use mathlib.Core.Path.{_≡_, refl, sym, _∙_}
+use mathlib.Core.Path.{_≡_, sym, _∙_}
 use Prim.Native.Nat.{_-_, _≤_}
 use native.Mathlib.Omega.{arith}
 use lib.ListN.{length, drop}

@@ -1,12 +1,9 @@
 -- `count_newlines` meets its contract. The invariant: the line feeds counted and those left make all of them.
 -- The measure is what is left of the text. A turn of the loop is one step of the definition.
-use mathlib.Core.Path.{_≡_, refl, sym, _∙_}
-use mathlib.Core.Bool.{false}
+use mathlib.Core.Path.{_≡_}
 use Prim.Native.Nat.{_+_, _-_, _≤_}
 use native.Mathlib.Omega.{arith}
 use lib.ListN.{length, drop, getD}
-use borrow.Author.Needs.{needs}
-use borrow.Author.Tests.{not-true, not-false}
 use Rattle.lexing.proofs.Scans.{newlines-further, newlines-none, line-feed-small}
 use Rattle.lexing.specs.Text.{newlines, lineFeed}
 use Rattle.lexing.proofs.tokens.count_newlines.Statement.{statement}

@@ -2,11 +2,9 @@
 -- The measure is what is left of the text. A turn of the loop is one step of the definition.
 use mathlib.Core.Path.{_≡_, refl, sym, _∙_}
 use mathlib.Core.Bool.{false}
-use Prim.Native.Nat.{_+_, _-_, _≤_}
+use Prim.Native.Nat.{_-_}
 use native.Mathlib.Omega.{arith}
 use lib.ListN.{length, drop}
-use borrow.Author.Needs.{needs}
-use borrow.Author.Tests.{not-true, not-false}
 use Rattle.lexing.proofs.Scans.{start-here, start-further, start-none}
 use Rattle.lexing.specs.Text.{tokenStart}
 use Rattle.lexing.proofs.tokens.token_start.Statement.{statement}

@@ -1,5 +1,5 @@
 -- `read_word` meets its contract: each answer is the definition's under the tests that led there.
-use mathlib.Core.Path.{_≡_, sym, _∙_}
+use mathlib.Core.Path.{sym, _∙_}
 use Rattle.lexing.specs.Words.{wordOf}
 use borrow.Author.Needs.{needs}
 use Rattle.lexing.proofs.words.read_word.Statement.{statement}

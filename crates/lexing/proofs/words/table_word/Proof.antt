@@ -1,5 +1,5 @@
 -- `table_word` meets its contract: each answer is the definition's under the tests that led there.
-use mathlib.Core.Path.{_≡_, sym, _∙_}
+use mathlib.Core.Path.{sym, _∙_}
 use Rattle.lexing.specs.Words.{tableWord}
 use borrow.Author.Needs.{needs}
 use Rattle.lexing.proofs.words.table_word.Statement.{statement}

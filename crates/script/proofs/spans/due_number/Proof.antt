@@ -1,5 +1,5 @@
 -- `due_number` meets its contract: each answer is the definition's for what comes next.
-use mathlib.Core.Path.{_≡_, sym, _∙_}
+use mathlib.Core.Path.{sym, _∙_}
 use Rattle.script.proofs.Stretches.{due-by}
 use borrow.Author.Needs.{needs}
 use Rattle.script.proofs.spans.due_number.Statement.{statement}

@@ -1,6 +1,6 @@
 -- `next_number` meets its contract: each answer is the definition's under the tests that led there, and the part of the
 -- text that is read as a number lies within it.
-use mathlib.Core.Path.{_≡_, sym, _∙_}
+use mathlib.Core.Path.{sym, _∙_}
 use native.Mathlib.Omega.{arith}
 use Rattle.script.proofs.Stretches.{span-least, span-most, ahead-cut, ahead-end, ahead-token}
 use borrow.Author.Needs.{needs}

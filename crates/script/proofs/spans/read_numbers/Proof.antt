@@ -1,6 +1,6 @@
 -- `read_numbers` meets its contract. The invariant: the numbers read stand at the beginning of the buffer, and the list
 -- asked for is those followed by the list from the place reached. The measure is the room left.
-use mathlib.Core.Path.{_≡_, sym, _∙_}
+use mathlib.Core.Path.{sym, _∙_}
 use Prim.Native.Nat.{_-_}
 use native.Mathlib.Omega.{arith}
 use lib.ListN.{length, length-set}

@@ -1,5 +1,5 @@
 -- `read_list` meets its contract: the answer is the definition's for how the list ends, and the buffer holds the list.
-use mathlib.Core.Path.{_≡_, sym, ap, _∙_}
+use mathlib.Core.Path.{sym, ap, _∙_}
 use Rattle.script.specs.Statements.{listAt, listBy}
 use borrow.Author.Needs.{needs}
 use Rattle.script.proofs.statements.read_list.Statement.{statement}

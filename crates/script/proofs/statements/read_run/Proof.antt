@@ -1,5 +1,5 @@
 -- `read_run` meets its contract: behind the number that must stand there it is the list's reading.
-use mathlib.Core.Path.{_≡_, sym, ap, _∙_}
+use mathlib.Core.Path.{sym, ap, _∙_}
 use lib.ListN.{length}
 use Rattle.script.specs.Spans.{overwritten}
 use Rattle.script.specs.Statements.{Read}

@@ -1,5 +1,5 @@
 -- `read_write` meets its contract: each answer is the definition's for the two numbers that must stand there.
-use mathlib.Core.Path.{_≡_, sym, _∙_}
+use mathlib.Core.Path.{sym, _∙_}
 use Rattle.script.specs.Statements.{writeAt}
 use borrow.Author.Needs.{needs}
 use Rattle.script.proofs.statements.read_write.Statement.{statement}
