@@ -48,12 +48,10 @@ pub begun : (C : Contract) → Established C → (accepted refused : ℕ) → Ve
     → (r : Progress) → r ≡ progressOf answer 0
     → Started C limit rows′ words′ r
 begun C known accepted refused verdicts limit rows words room some kind ek answer rows′ words′ b r er =
-    λ lefts rights.
     let offer : Offering = offering accepted refused limit 0 0 0 0 (emptyKind C ++ (0 ∷ [])) rows words in
     rw (er, b .answer, b .rows, b .words, ek)
-    (with-one C (λ n. Between C limit 0 n lefts rights (offer .rows) (offer .words)) limit (offer .rows) (offer .words) (progressOf (offer .answer) 0) (goes-to-one accepted refused limit (emptyKind C ++ (0 ∷ [])) rows words some)
-    (started C known accepted refused verdicts limit rows words lefts rights room some))
+    (with-one C (λ n. Between C limit 0 n (offer .rows) (offer .words)) limit (offer .rows) (offer .words) (progressOf (offer .answer) 0) (goes-to-one accepted refused limit (emptyKind C ++ (0 ∷ [])) rows words some)
+    (started C known accepted refused verdicts limit rows words room some))
 
-pub one-row : {C : Contract} {limit n : ℕ} {lefts rights rows words : List ℕ} → n ≡ 1 → Between C limit 0 n lefts rights rows words
-    → Between C limit 0 1 lefts rights rows words
-one-row {C} {limit} {n} {lefts} {rights} {rows} {words} e b = subst (λ (k : ℕ). Between C limit 0 k lefts rights rows words) e b
+pub one-row : {C : Contract} {limit n : ℕ} {rows words : List ℕ} → n ≡ 1 → Between C limit 0 n rows words → Between C limit 0 1 rows words
+one-row {C} {limit} {n} {rows} {words} e b = subst (λ (k : ℕ). Between C limit 0 k rows words) e b

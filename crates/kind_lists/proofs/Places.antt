@@ -2,15 +2,20 @@
 use mathlib.Core.Path.{_≡_, refl, sym, _∙_}
 use mathlib.Core.Bool.{Bool, true, false, _&&_}
 use mathlib.Core.List.{List}
-use Prim.Native.Nat.{ℕ, _+_, _≤_, _<_}
+use Prim.Native.Nat.{ℕ, _+_, _-_, _≤_, _<_}
 use native.Mathlib.Omega.{arith}
 use native.Mathlib.Decide.{ℕ-discrete}
 use native.Mathlib.Decide.{decLt}
 use borrow.Author.Tests.{lt-ltb, le-ltb, ltb-true}
+use lib.Bits.{bitAnd, and-le-r}
 use lib.Dec.{ltb}
 use Rattle.foundation.specs.Search.{first, first-at, first-none, first-clear}
 use Rattle.kind_lists.specs.Listing.{sameKind, kindPlace, kindListed, foundAt, wasFound}
 use Rattle.kind_lists.specs.declared.listing.Found.the-variants as found
+
+-- a slot is below the number of slots
+pub slot-below : (w slots : ℕ) → 1 ≤ slots → bitAnd w (slots - 1) < slots
+slot-below w slots h = omega (arith, and-le-r w (slots - 1))
 
 -- one more number that fails a test
 pub below-more : (p : ℕ → Bool) (k : ℕ) → ((j : ℕ) → j < k → p j ≡ false) → p k ≡ false → (j : ℕ) → j < k + 1 → p j ≡ false

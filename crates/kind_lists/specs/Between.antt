@@ -35,22 +35,29 @@ module _ (C : Contract) where
       (e : ℕ) × (e < j)
       × ((q : List ℕ) → nextKind C s q (kindAt C (rounds (kindAutomaton C) height) j) ≡ nextKind C s q (kindAt C (rounds (kindAutomaton C) height) e))
 
-  -- the buffers hold the rows of rounds 0 to `height`; those below `before` stood in the round before and are marked
-  pub record Between (limit before stood : ℕ) (lefts rights rows words : List ℕ) : Type 0 where
+  -- the buffers hold the rows of rounds 0 to `height`; those below `before` stood in the round before
+  pub record Between (limit before stood : ℕ) (rows words : List ℕ) : Type 0 where
     pub height : ℕ
     pub stands : stood ≡ length (rounds (kindAutomaton C) height)
     pub earlier : before ≤ stood
     pub old : (s i j : ℕ) → 1 ≤ s → s < C .transformation .symbols → i < before → j < before
         → HasState (kindAutomaton C) (rounds (kindAutomaton C) height)
         (nextKind C s (kindAt C (rounds (kindAutomaton C) height) i) (kindAt C (rounds (kindAutomaton C) height) j))
-    pub leftSame : (s i : ℕ) → 1 ≤ s → s < C .transformation .symbols → i < before → bit (getD lefts i 0) s ≡ false → LeftSame height s i
-    pub rightSame : (s j : ℕ) → 1 ≤ s → s < C .transformation .symbols → j < before → bit (getD rights j 0) s ≡ false → RightSame height s j
     pub holds : Holds C limit rows words (rounds (kindAutomaton C) height)
     pub none : NoneBreaks C stood (rounds (kindAutomaton C) height)
     pub ended : before ≡ stood → Ended (kindAutomaton C) height
 
+  -- the rows below `marked` have their marks
+  pub record Marked (height marked : ℕ) (lefts rights : List ℕ) : Type 0 where
+    pub leftSame : (s i : ℕ) → 1 ≤ s → s < C .transformation .symbols → i < marked → bit (getD lefts i 0) s ≡ false → LeftSame height s i
+    pub rightSame : (s j : ℕ) → 1 ≤ s → s < C .transformation .symbols → j < marked → bit (getD rights j 0) s ≡ false → RightSame height s j
+
+  pub none-marked-yet : (height : ℕ) (lefts rights : List ℕ) → Marked height 0 lefts rights
+  none-marked-yet height lefts rights =
+      record { leftSame = λ s i h1 hS hi u. absurd (omega arith); rightSame = λ s j h1 hS hj u. absurd (omega arith) }
+
   module _ (known : Established C) (leftMasks rightMasks : List ℕ) (covered : Covered C leftMasks rightMasks)
-      {limit before stood : ℕ} {lefts rights rows words : List ℕ} (b : Between limit before stood lefts rights rows words) where
+      {limit before stood : ℕ} {rows words : List ℕ} (b : Between limit before stood rows words) where
     abbrev standing : List (ListedKind C)
     standing = rounds (kindAutomaton C) (b .height)
 
@@ -66,30 +73,31 @@ module _ (C : Contract) where
         let (e, le, t) = m .unmarked s h1 hS unmarked in
         (e, le, rw (held j (omega arith), held e (omega arith)) at (agrees-under words e j masks s t))
 
-    module _ {lefts′ rights′ : List ℕ} (ml : MarkedFrom words leftMasks (C .transformation .symbols) before stood lefts lefts′)
-        (mr : MarkedFrom words rightMasks (C .transformation .symbols) before stood rights rights′) where
+    module _ {marked : ℕ} {lefts rights lefts′ rights′ : List ℕ} (m : Marked (b .height) marked lefts rights)
+        (ml : MarkedFrom words leftMasks (C .transformation .symbols) marked stood lefts lefts′)
+        (mr : MarkedFrom words rightMasks (C .transformation .symbols) marked stood rights rights′) where
       left-same : (s i : ℕ) → 1 ≤ s → s < C .transformation .symbols → i < stood → bit (getD lefts′ i 0) s ≡ false → LeftSame (b .height) s i
-      left-same s i h1 hS hi unmarked = go (decLt i before)
+      left-same s i h1 hS hi unmarked = go (decLt i marked)
         where
-          go : Dec (i < before) → LeftSame (b .height) s i
-          go (yes l) = b .leftSame s i h1 hS l (ap (λ (w : ℕ). bit w s) (sym (ml .kept i l)) ∙ unmarked)
+          go : Dec (i < marked) → LeftSame (b .height) s i
+          go (yes l) = m .leftSame s i h1 hS l (ap (λ (w : ℕ). bit w s) (sym (ml .kept i l)) ∙ unmarked)
           go (no l) =
               let (e, le, a) = agrees leftMasks (C .transformation .symbols) s i (getD lefts′ i 0) h1 hS hi (ml .marks i (omega arith) hi) unmarked in
               (e, le, λ q. class-agree C known s (onSide (maskIn leftMasks s) (maskIn rightMasks s)) (covered .covers s h1 hS) _ _ q q a (agree-self (maskIn rightMasks s) q))
 
       right-same : (s j : ℕ) → 1 ≤ s → s < C .transformation .symbols → j < stood → bit (getD rights′ j 0) s ≡ false → RightSame (b .height) s j
-      right-same s j h1 hS hj unmarked = go (decLt j before)
+      right-same s j h1 hS hj unmarked = go (decLt j marked)
         where
-          go : Dec (j < before) → RightSame (b .height) s j
-          go (yes l) = b .rightSame s j h1 hS l (ap (λ (w : ℕ). bit w s) (sym (mr .kept j l)) ∙ unmarked)
+          go : Dec (j < marked) → RightSame (b .height) s j
+          go (yes l) = m .rightSame s j h1 hS l (ap (λ (w : ℕ). bit w s) (sym (mr .kept j l)) ∙ unmarked)
           go (no l) =
               let (e, le, a) = agrees rightMasks (C .transformation .symbols) s j (getD rights′ j 0) h1 hS hj (mr .marks j (omega arith) hj) unmarked in
               (e, le, λ q. class-agree C known s (onSide (maskIn leftMasks s) (maskIn rightMasks s)) (covered .covers s h1 hS) q q _ _ (agree-self (maskIn leftMasks s) q) a)
 
       -- a round begins
-      pub round-starts : At C limit before stood lefts′ rights′ 1 0 0 stood rows words
+      pub round-starts : stood ≤ length lefts′ → stood ≤ length rights′ → At C limit before stood lefts′ rights′ 1 0 0 stood rows words
       unfolding roundTo
-      round-starts =
+      round-starts leftRoom rightRoom =
           let e : listAt C (b .height) 1 0 0 ≡ standing = ap (λ (c : ℕ). roundTo (kindAutomaton C) standing c) (place-first (length standing)) in
           record {
             inRound =
@@ -98,6 +106,8 @@ module _ (C : Contract) where
                   stands = b .stands;
                   earlier = b .earlier;
                   old = b .old;
+                  leftRoom = leftRoom;
+                  rightRoom = rightRoom;
                   leftSame = left-same;
                   rightSame = right-same;
                 };
@@ -107,28 +117,31 @@ module _ (C : Contract) where
             none = subst (λ (list : List (ListedKind C)). NoneBreaks C stood list) (sym e) (b .none);
           }
 
-  -- a round ends
+  -- a round ends, and its rows have their marks
   pub round-ends : {limit before stood n : ℕ} {lefts rights rows words : List ℕ}
       → At C limit before stood lefts rights (C .transformation .symbols) 0 0 n rows words
-      → Between limit stood n lefts rights rows words
+      → (b : Between limit stood n rows words) × Marked (b .height) stood lefts rights
   unfolding rounds round
-  round-ends {limit} {before} {stood} {n} {lefts} {rights} {rows} {words} at =
-      record {
-        height = suc height;
-        stands = counted;
-        earlier = omega (arith, begins-length grows, stands, counted);
-        old = λ s i j h1 hS hi hj.
-            rw (← begins-state grows i (omega arith), ← begins-state grows j (omega arith)) at (round-lists (kindAutomaton C) (kinds-decided C) before-list s i j h1 hS (omega arith) (omega arith));
-        leftSame = λ s i h1 hS hi u.
-            let (e, le, q) = at .inRound .leftSame s i h1 hS hi u in
-            (e, le, λ k. ap (λ (kind : List ℕ). nextKind C s kind k) (begins-state grows i (omega arith)) ∙ q k ∙ ap (λ (kind : List ℕ). nextKind C s kind k) (sym (begins-state grows e (omega arith))));
-        rightSame = λ s j h1 hS hj u.
-            let (e, le, q) = at .inRound .rightSame s j h1 hS hj u in
-            (e, le, λ k. ap (λ (kind : List ℕ). nextKind C s k kind) (begins-state grows j (omega arith)) ∙ q k ∙ ap (λ (kind : List ℕ). nextKind C s k kind) (sym (begins-state grows e (omega arith))));
-        holds = subst (λ (list : List (ListedKind C)). Holds C limit rows words list) whole (at .holds);
-        none = subst (λ (list : List (ListedKind C)). NoneBreaks C n list) whole (at .none);
-        ended = λ e. ap (λ (list : List (ListedKind C)). round (kindAutomaton C) list) (adds-nothing (kindAutomaton C) before-list (sym counted ∙ sym e ∙ stands));
-      }
+  round-ends {limit} {before} {stood} {n} {lefts} {rights} {rows} {words} at = (
+    record {
+      height = suc height;
+      stands = counted;
+      earlier = omega (arith, begins-length grows, stands, counted);
+      old = λ s i j h1 hS hi hj.
+          rw (← begins-state grows i (omega arith), ← begins-state grows j (omega arith)) at (round-lists (kindAutomaton C) (kinds-decided C) before-list s i j h1 hS (omega arith) (omega arith));
+      holds = subst (λ (list : List (ListedKind C)). Holds C limit rows words list) whole (at .holds);
+      none = subst (λ (list : List (ListedKind C)). NoneBreaks C n list) whole (at .none);
+      ended = λ e. ap (λ (list : List (ListedKind C)). round (kindAutomaton C) list) (adds-nothing (kindAutomaton C) before-list (sym counted ∙ sym e ∙ stands));
+    },
+    record {
+      leftSame = λ s i h1 hS hi u.
+          let (e, le, q) = at .inRound .leftSame s i h1 hS hi u in
+          (e, le, λ k. ap (λ (kind : List ℕ). nextKind C s kind k) (begins-state grows i (omega arith)) ∙ q k ∙ ap (λ (kind : List ℕ). nextKind C s kind k) (sym (begins-state grows e (omega arith))));
+      rightSame = λ s j h1 hS hj u.
+          let (e, le, q) = at .inRound .rightSame s j h1 hS hj u in
+          (e, le, λ k. ap (λ (kind : List ℕ). nextKind C s k kind) (begins-state grows j (omega arith)) ∙ q k ∙ ap (λ (kind : List ℕ). nextKind C s k kind) (sym (begins-state grows e (omega arith))));
+    },
+  )
     where
       height : ℕ
       height = at .inRound .height
@@ -156,7 +169,12 @@ module _ (C : Contract) where
     pub holds : Holds C limit rows words (rounds (kindAutomaton C) height)
     pub none : NoneBreaks C n (rounds (kindAutomaton C) height)
 
-  pub passed : {limit before stood : ℕ} {lefts rights rows words : List ℕ} → Between limit before stood lefts rights rows words → stood ≤ before
+  -- how far rounds came: the list has ended, or it has more rows than there are marks
+  pub record Reached (limit room before n : ℕ) (rows words : List ℕ) : Type 0 where
+    pub between : Between limit before n rows words
+    pub whole : n ≤ room → n ≤ before
+
+  pub passed : {limit before stood : ℕ} {rows words : List ℕ} → Between limit before stood rows words → stood ≤ before
       → Passed limit stood rows words
   passed b h =
       let earlier = b .earlier in

@@ -23,7 +23,7 @@ use Rattle.kind_lists.specs.Between.{Between}
 use Rattle.kind_lists.specs.declared.listing.Offered.the-variants as offered
 
 module _ (C : Contract) (known : Established C) (accepted refused : ℕ) (verdicts : VerdictsFor C accepted refused) (limit : ℕ)
-    (rows words lefts rights : List ℕ) (room : Room limit 0 rows words) (some : 1 ≤ limit) where
+    (rows words : List ℕ) (room : Room limit 0 rows words) (some : 1 ≤ limit) where
   abbrev kind : List ℕ
   kind = emptyKind C
 
@@ -64,28 +64,26 @@ module _ (C : Contract) (known : Established C) (accepted refused : ℕ) (verdic
         none = record { keeps = λ i l h. absurd (omega arith) };
       }
 
-  goes-on : breaking accepted refused (kind ++ (0 ∷ [])) ≡ false → Between C limit 0 (0 + 1) lefts rights rows′ words′
+  goes-on : breaking accepted refused (kind ++ (0 ∷ [])) ≡ false → Between C limit 0 (0 + 1) rows′ words′
   goes-on e =
       record {
         height = 0;
         stands = sym one;
         earlier = omega arith;
         old = λ s i j h1 hS hi hj. absurd (omega arith);
-        leftSame = λ s i h1 hS hi u. absurd (omega arith);
-        rightSame = λ s j h1 hS hj u. absurd (omega arith);
         holds = one-row;
         none = record { keeps = λ i l h. let z : i ≡ 0 = omega arith in rw z (verdict false e) };
         ended = λ z. absurd (omega arith);
       }
 
   by-verdict : (b : Bool) → breaking accepted refused (kind ++ (0 ∷ [])) ≡ b
-      → Outcome C (λ n. Between C limit 0 n lefts rights rows′ words′) limit rows′ words′ (progressOf (choose b offered.Breaks offered.New) 0)
+      → Outcome C (λ n. Between C limit 0 n rows′ words′) limit rows′ words′ (progressOf (choose b offered.Breaks offered.New) 0)
   by-verdict true e = broken e
   by-verdict false e = goes-on e
 
   abbrev offer : Offering
   offer = offering accepted refused limit 0 0 0 0 (kind ++ (0 ∷ [])) rows words
 
-  pub started : Outcome C (λ n. Between C limit 0 n lefts rights (offer .rows) (offer .words)) limit (offer .rows) (offer .words) (progressOf (offer .answer) 0)
+  pub started : Outcome C (λ n. Between C limit 0 n (offer .rows) (offer .words)) limit (offer .rows) (offer .words) (progressOf (offer .answer) 0)
   unfolding offering kindPlace first
   started = rw (ne-eqb 0 limit (λ e. omega arith)) (by-verdict (breaking accepted refused (kind ++ (0 ∷ []))) refl)

@@ -48,6 +48,8 @@ module _ (C : Contract) where
     pub old : (s i j : ℕ) → 1 ≤ s → s < C .transformation .symbols → i < before → j < before
         → HasState (kindAutomaton C) (rounds (kindAutomaton C) height)
         (nextKind C s (kindAt C (rounds (kindAutomaton C) height) i) (kindAt C (rounds (kindAutomaton C) height) j))
+    pub leftRoom : stood ≤ length lefts
+    pub rightRoom : stood ≤ length rights
     pub leftSame : (s i : ℕ) → 1 ≤ s → s < C .transformation .symbols → i < stood → bit (getD lefts i 0) s ≡ false
         → (e : ℕ) × (e < i)
         × ((q : List ℕ) → nextKind C s (kindAt C (rounds (kindAutomaton C) height) i) q ≡ nextKind C s (kindAt C (rounds (kindAutomaton C) height) e) q)

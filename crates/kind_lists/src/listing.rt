@@ -56,15 +56,24 @@ pub fn find_kind(words: &[u64], count: usize, kind: &[u64; 6]) -> Found
     Found::Nowhere
 }
 
-// The slot of a kind in the table of hints.
-pub fn hint_slot(kind: &[u64; 6]) -> usize
-    ensures { λ r. ⌜ r < 2048 ⌝ }
+// A slot below the number of slots, which is best a power of two.
+fn slot_below(hash: usize, slots: usize) -> usize
+    requires { ⌜ 1 ≤ slots ⌝ }
+    ensures { λ r. ⌜ r < slots ⌝ }
+{
+    hash & (slots - 1)
+}
+
+// The slot of a kind in a table of so many hints.
+pub fn hint_slot(kind: &[u64; 6], slots: usize) -> usize
+    requires { ⌜ 1 ≤ slots ⌝ }
+    ensures { λ r. ⌜ r < slots ⌝ }
 {
     let low = kind[0] ^ (kind[1] << 7) ^ (kind[2] << 19) ^ (kind[3] << 31) ^ (kind[4] << 43);
     let high = (kind[1] >> 23) ^ (kind[2] >> 31) ^ (kind[3] >> 11) ^ (kind[4] >> 5);
     let both = low ^ high;
     let half = (both ^ (both >> 32)) % 4294967296;
-    (((half * 2654435761) >> 20) % 2048) as usize
+    slot_below(((half * 2654435761) >> 20) as usize, slots)
 }
 
 // Whether the row that the hint names is listed and has this kind.
@@ -104,11 +113,11 @@ fn is_found(found: Found) -> bool
 }
 
 // Whether the kind is listed. A hint names the row to compare first; a wrong one costs a search.
-pub fn listed(words: &[u64], count: usize, kind: &[u64; 6], hints: &mut [u16; 2048]) -> bool
-    requires { ⌜ (5 * count ≤ length (now words)) × (count < 65536) ⌝ }
+pub fn listed(words: &[u64], count: usize, kind: &[u64; 6], hints: &mut [u16]) -> bool
+    requires { ⌜ (5 * count ≤ length (now words)) × (count < 65536) × (1 ≤ length (now hints)) ⌝ }
     ensures { λ r. ⌜ r ≡ kindListed (now (words .entry)) count (now (kind .entry)) ⌝ }
 {
-    let slot = hint_slot(kind);
+    let slot = hint_slot(kind, hints.len());
     if hint_right(words, count, wide(hints[slot]), kind) {
         return true;
     }
@@ -170,11 +179,11 @@ pub fn offer(
     left: u16,
     right: u16,
     kind: &[u64; 6],
-    hints: &mut [u16; 2048],
+    hints: &mut [u16],
     rows: &mut [u16],
     words: &mut [u64],
 ) -> Offered
-    requires { ⌜ Room limit count (now rows) (now words) ⌝ }
+    requires { ⌜ Room limit count (now rows) (now words) × (1 ≤ length (now hints)) ⌝ }
     ensures { λ r. ⌜ Becomes (offering (verdicts .accepted) (verdicts .refused) limit count (symbol .0) left right (now (kind .entry)) (now (rows .entry)) (now (words .entry))) r (now (rows .exit)) (now (words .exit)) ⌝ }
 {
     if listed(words, count, kind, hints) {

@@ -3,7 +3,7 @@
 //
 // The functions of a round take the whole contract, also what they do not read of it: their promises speak of its kinds.
 ghost use mathlib.Core.Path.{_≡_};
-ghost use Prim.Native.Nat.{ℕ, _+_, _≤_, _<_};
+ghost use Prim.Native.Nat.{ℕ, _+_, _*_, _≤_, _<_};
 ghost use lib.ListN.{getD, length};
 ghost use Rattle.foundation.specs.Words.{bit};
 ghost use Rattle.foundation.specs.Tests.{choose};
@@ -13,7 +13,7 @@ ghost use Rattle.lanes.specs.Layouts.{layoutOf};
 ghost use Rattle.kind_lists.specs.Stage.{Stage};
 ghost use Rattle.kind_lists.specs.Steps.{progressOf, At, Outcome};
 ghost use Rattle.kind_lists.specs.Marks.{Covered};
-ghost use Rattle.kind_lists.specs.Between.{Between, Passed};
+ghost use Rattle.kind_lists.specs.Between.{Between, Reached};
 use crate::listing::Offered;
 use crate::listing::Verdicts;
 use crate::listing::kind_at;
@@ -32,6 +32,12 @@ pub enum Progress {
     Breaks(usize),
     // There are more kinds than rows.
     Full,
+}
+
+// How far rounds came: the rows that stood before the last of them, and how it ended.
+pub struct Rounds {
+    pub before: usize,
+    pub ended: Progress,
 }
 
 // What an offer to `count` rows comes to.
@@ -56,8 +62,8 @@ fn row_number(row: usize) -> u16
 }
 
 // Whether row i is marked as the first of its class for the symbol.
-pub fn marked(firsts: &[u16; 512], i: usize, symbol: Symbol) -> bool
-    requires { ⌜ (i < 512) × (symbol .0 < 16) ⌝ }
+pub fn marked(firsts: &[u16], i: usize, symbol: Symbol) -> bool
+    requires { ⌜ (i < length (now firsts)) × (symbol .0 < 16) ⌝ }
     ensures { λ r. ⌜ r ≡ bit (getD (now (firsts .entry)) i 0) (symbol .0) ⌝ }
 {
     (firsts[i] >> symbol.0) % 2 == 1
@@ -91,17 +97,17 @@ pub fn visit_pair(
     limit: usize,
     before: usize,
     stood: usize,
-    lefts: &[u16; 512],
-    rights: &[u16; 512],
+    lefts: &[u16],
+    rights: &[u16],
     count: usize,
     symbol: Symbol,
     left: usize,
     right: usize,
-    hints: &mut [u16; 2048],
+    hints: &mut [u16],
     rows: &mut [u16],
     words: &mut [u64],
 ) -> Progress
-    requires { ⌜ Stage (contract symbols «input_states» (layout .states) (now counts) (now «input_rows») (now «input_marks») (now «output_table») (now «output_marks») (now nodes) (now rules)) (layoutOf layout) (now offsets) (now lists) (verdicts .accepted) (verdicts .refused) × At (contract symbols «input_states» (layout .states) (now counts) (now «input_rows») (now «input_marks») (now «output_table») (now «output_marks») (now nodes) (now rules)) limit before stood (now lefts) (now rights) (symbol .0) left right count (now rows) (now words) × (symbol .0 < symbols) × (left < stood) × (right < stood) ⌝ }
+    requires { ⌜ Stage (contract symbols «input_states» (layout .states) (now counts) (now «input_rows») (now «input_marks») (now «output_table») (now «output_marks») (now nodes) (now rules)) (layoutOf layout) (now offsets) (now lists) (verdicts .accepted) (verdicts .refused) × At (contract symbols «input_states» (layout .states) (now counts) (now «input_rows») (now «input_marks») (now «output_table») (now «output_marks») (now nodes) (now rules)) limit before stood (now lefts) (now rights) (symbol .0) left right count (now rows) (now words) × (symbol .0 < symbols) × (left < stood) × (right < stood) × (1 ≤ length (now hints)) ⌝ }
     ensures { λ r. ⌜ Outcome (contract symbols «input_states» (layout .states) (now (counts .entry)) (now («input_rows» .entry)) (now («input_marks» .entry)) (now («output_table» .entry)) (now («output_marks» .entry)) (now (nodes .entry)) (now (rules .entry))) (λ (n : ℕ). At (contract symbols «input_states» (layout .states) (now (counts .entry)) (now («input_rows» .entry)) (now («input_marks» .entry)) (now («output_table» .entry)) (now («output_marks» .entry)) (now (nodes .entry)) (now (rules .entry))) limit before stood (now (lefts .entry)) (now (rights .entry)) (symbol .0) left (right + 1) n (now (rows .exit)) (now (words .exit))) limit (now (rows .exit)) (now (words .exit)) r ⌝ }
 {
     let left_kind = kind_at(words, left);
@@ -152,17 +158,17 @@ pub fn right_row(
     limit: usize,
     before: usize,
     stood: usize,
-    lefts: &[u16; 512],
-    rights: &[u16; 512],
+    lefts: &[u16],
+    rights: &[u16],
     count: usize,
     symbol: Symbol,
     left: usize,
     right: usize,
-    hints: &mut [u16; 2048],
+    hints: &mut [u16],
     rows: &mut [u16],
     words: &mut [u64],
 ) -> Progress
-    requires { ⌜ Stage (contract symbols «input_states» (layout .states) (now counts) (now «input_rows») (now «input_marks») (now «output_table») (now «output_marks») (now nodes) (now rules)) (layoutOf layout) (now offsets) (now lists) (verdicts .accepted) (verdicts .refused) × At (contract symbols «input_states» (layout .states) (now counts) (now «input_rows») (now «input_marks») (now «output_table») (now «output_marks») (now nodes) (now rules)) limit before stood (now lefts) (now rights) (symbol .0) left right count (now rows) (now words) × (symbol .0 < symbols) × (left < stood) × (right < stood) ⌝ }
+    requires { ⌜ Stage (contract symbols «input_states» (layout .states) (now counts) (now «input_rows») (now «input_marks») (now «output_table») (now «output_marks») (now nodes) (now rules)) (layoutOf layout) (now offsets) (now lists) (verdicts .accepted) (verdicts .refused) × At (contract symbols «input_states» (layout .states) (now counts) (now «input_rows») (now «input_marks») (now «output_table») (now «output_marks») (now nodes) (now rules)) limit before stood (now lefts) (now rights) (symbol .0) left right count (now rows) (now words) × (symbol .0 < symbols) × (left < stood) × (right < stood) × (1 ≤ length (now hints)) ⌝ }
     ensures { λ r. ⌜ Outcome (contract symbols «input_states» (layout .states) (now (counts .entry)) (now («input_rows» .entry)) (now («input_marks» .entry)) (now («output_table» .entry)) (now («output_marks» .entry)) (now (nodes .entry)) (now (rules .entry))) (λ (n : ℕ). At (contract symbols «input_states» (layout .states) (now (counts .entry)) (now («input_rows» .entry)) (now («input_marks» .entry)) (now («output_table» .entry)) (now («output_marks» .entry)) (now (nodes .entry)) (now (rules .entry))) limit before stood (now (lefts .entry)) (now (rights .entry)) (symbol .0) left (right + 1) n (now (rows .exit)) (now (words .exit))) limit (now (rows .exit)) (now (words .exit)) r ⌝ }
 {
     if marked(rights, right, symbol) {
@@ -215,17 +221,17 @@ pub fn right_rows(
     limit: usize,
     before: usize,
     stood: usize,
-    lefts: &[u16; 512],
-    rights: &[u16; 512],
+    lefts: &[u16],
+    rights: &[u16],
     count: usize,
     symbol: Symbol,
     left: usize,
     from: usize,
-    hints: &mut [u16; 2048],
+    hints: &mut [u16],
     rows: &mut [u16],
     words: &mut [u64],
 ) -> Progress
-    requires { ⌜ Stage (contract symbols «input_states» (layout .states) (now counts) (now «input_rows») (now «input_marks») (now «output_table») (now «output_marks») (now nodes) (now rules)) (layoutOf layout) (now offsets) (now lists) (verdicts .accepted) (verdicts .refused) × At (contract symbols «input_states» (layout .states) (now counts) (now «input_rows») (now «input_marks») (now «output_table») (now «output_marks») (now nodes) (now rules)) limit before stood (now lefts) (now rights) (symbol .0) left from count (now rows) (now words) × (symbol .0 < symbols) × (left < stood) × (from ≤ stood) ⌝ }
+    requires { ⌜ Stage (contract symbols «input_states» (layout .states) (now counts) (now «input_rows») (now «input_marks») (now «output_table») (now «output_marks») (now nodes) (now rules)) (layoutOf layout) (now offsets) (now lists) (verdicts .accepted) (verdicts .refused) × At (contract symbols «input_states» (layout .states) (now counts) (now «input_rows») (now «input_marks») (now «output_table») (now «output_marks») (now nodes) (now rules)) limit before stood (now lefts) (now rights) (symbol .0) left from count (now rows) (now words) × (symbol .0 < symbols) × (left < stood) × (from ≤ stood) × (1 ≤ length (now hints)) ⌝ }
     ensures { λ r. ⌜ Outcome (contract symbols «input_states» (layout .states) (now (counts .entry)) (now («input_rows» .entry)) (now («input_marks» .entry)) (now («output_table» .entry)) (now («output_marks» .entry)) (now (nodes .entry)) (now (rules .entry))) (λ (n : ℕ). At (contract symbols «input_states» (layout .states) (now (counts .entry)) (now («input_rows» .entry)) (now («input_marks» .entry)) (now («output_table» .entry)) (now («output_marks» .entry)) (now (nodes .entry)) (now (rules .entry))) limit before stood (now (lefts .entry)) (now (rights .entry)) (symbol .0) left stood n (now (rows .exit)) (now (words .exit))) limit (now (rows .exit)) (now (words .exit)) r ⌝ }
 {
     let mut total: usize = count;
@@ -285,16 +291,16 @@ pub fn left_row(
     limit: usize,
     before: usize,
     stood: usize,
-    lefts: &[u16; 512],
-    rights: &[u16; 512],
+    lefts: &[u16],
+    rights: &[u16],
     count: usize,
     symbol: Symbol,
     left: usize,
-    hints: &mut [u16; 2048],
+    hints: &mut [u16],
     rows: &mut [u16],
     words: &mut [u64],
 ) -> Progress
-    requires { ⌜ Stage (contract symbols «input_states» (layout .states) (now counts) (now «input_rows») (now «input_marks») (now «output_table») (now «output_marks») (now nodes) (now rules)) (layoutOf layout) (now offsets) (now lists) (verdicts .accepted) (verdicts .refused) × At (contract symbols «input_states» (layout .states) (now counts) (now «input_rows») (now «input_marks») (now «output_table») (now «output_marks») (now nodes) (now rules)) limit before stood (now lefts) (now rights) (symbol .0) left 0 count (now rows) (now words) × (symbol .0 < symbols) × (left < stood) ⌝ }
+    requires { ⌜ Stage (contract symbols «input_states» (layout .states) (now counts) (now «input_rows») (now «input_marks») (now «output_table») (now «output_marks») (now nodes) (now rules)) (layoutOf layout) (now offsets) (now lists) (verdicts .accepted) (verdicts .refused) × At (contract symbols «input_states» (layout .states) (now counts) (now «input_rows») (now «input_marks») (now «output_table») (now «output_marks») (now nodes) (now rules)) limit before stood (now lefts) (now rights) (symbol .0) left 0 count (now rows) (now words) × (symbol .0 < symbols) × (left < stood) × (1 ≤ length (now hints)) ⌝ }
     ensures { λ r. ⌜ Outcome (contract symbols «input_states» (layout .states) (now (counts .entry)) (now («input_rows» .entry)) (now («input_marks» .entry)) (now («output_table» .entry)) (now («output_marks» .entry)) (now (nodes .entry)) (now (rules .entry))) (λ (n : ℕ). At (contract symbols «input_states» (layout .states) (now (counts .entry)) (now («input_rows» .entry)) (now («input_marks» .entry)) (now («output_table» .entry)) (now («output_marks» .entry)) (now (nodes .entry)) (now (rules .entry))) limit before stood (now (lefts .entry)) (now (rights .entry)) (symbol .0) (left + 1) 0 n (now (rows .exit)) (now (words .exit))) limit (now (rows .exit)) (now (words .exit)) r ⌝ }
 {
     if marked(lefts, left, symbol) {
@@ -348,15 +354,15 @@ pub fn left_rows(
     limit: usize,
     before: usize,
     stood: usize,
-    lefts: &[u16; 512],
-    rights: &[u16; 512],
+    lefts: &[u16],
+    rights: &[u16],
     count: usize,
     symbol: Symbol,
-    hints: &mut [u16; 2048],
+    hints: &mut [u16],
     rows: &mut [u16],
     words: &mut [u64],
 ) -> Progress
-    requires { ⌜ Stage (contract symbols «input_states» (layout .states) (now counts) (now «input_rows») (now «input_marks») (now «output_table») (now «output_marks») (now nodes) (now rules)) (layoutOf layout) (now offsets) (now lists) (verdicts .accepted) (verdicts .refused) × At (contract symbols «input_states» (layout .states) (now counts) (now «input_rows») (now «input_marks») (now «output_table») (now «output_marks») (now nodes) (now rules)) limit before stood (now lefts) (now rights) (symbol .0) 0 0 count (now rows) (now words) × (symbol .0 < symbols) ⌝ }
+    requires { ⌜ Stage (contract symbols «input_states» (layout .states) (now counts) (now «input_rows») (now «input_marks») (now «output_table») (now «output_marks») (now nodes) (now rules)) (layoutOf layout) (now offsets) (now lists) (verdicts .accepted) (verdicts .refused) × At (contract symbols «input_states» (layout .states) (now counts) (now «input_rows») (now «input_marks») (now «output_table») (now «output_marks») (now nodes) (now rules)) limit before stood (now lefts) (now rights) (symbol .0) 0 0 count (now rows) (now words) × (symbol .0 < symbols) × (1 ≤ length (now hints)) ⌝ }
     ensures { λ r. ⌜ Outcome (contract symbols «input_states» (layout .states) (now (counts .entry)) (now («input_rows» .entry)) (now («input_marks» .entry)) (now («output_table» .entry)) (now («output_marks» .entry)) (now (nodes .entry)) (now (rules .entry))) (λ (n : ℕ). At (contract symbols «input_states» (layout .states) (now (counts .entry)) (now («input_rows» .entry)) (now («input_marks» .entry)) (now («output_table» .entry)) (now («output_marks» .entry)) (now (nodes .entry)) (now (rules .entry))) limit before stood (now (lefts .entry)) (now (rights .entry)) (symbol .0 + 1) 0 0 n (now (rows .exit)) (now (words .exit))) limit (now (rows .exit)) (now (words .exit)) r ⌝ }
 {
     let mut total: usize = count;
@@ -423,13 +429,13 @@ pub fn one_round(
     limit: usize,
     before: usize,
     stood: usize,
-    lefts: &[u16; 512],
-    rights: &[u16; 512],
-    hints: &mut [u16; 2048],
+    lefts: &[u16],
+    rights: &[u16],
+    hints: &mut [u16],
     rows: &mut [u16],
     words: &mut [u64],
 ) -> Progress
-    requires { ⌜ Stage (contract symbols «input_states» (layout .states) (now counts) (now «input_rows») (now «input_marks») (now «output_table») (now «output_marks») (now nodes) (now rules)) (layoutOf layout) (now offsets) (now lists) (verdicts .accepted) (verdicts .refused) × At (contract symbols «input_states» (layout .states) (now counts) (now «input_rows») (now «input_marks») (now «output_table») (now «output_marks») (now nodes) (now rules)) limit before stood (now lefts) (now rights) 1 0 0 stood (now rows) (now words) ⌝ }
+    requires { ⌜ Stage (contract symbols «input_states» (layout .states) (now counts) (now «input_rows») (now «input_marks») (now «output_table») (now «output_marks») (now nodes) (now rules)) (layoutOf layout) (now offsets) (now lists) (verdicts .accepted) (verdicts .refused) × At (contract symbols «input_states» (layout .states) (now counts) (now «input_rows») (now «input_marks») (now «output_table») (now «output_marks») (now nodes) (now rules)) limit before stood (now lefts) (now rights) 1 0 0 stood (now rows) (now words) × (1 ≤ length (now hints)) ⌝ }
     ensures { λ r. ⌜ Outcome (contract symbols «input_states» (layout .states) (now (counts .entry)) (now («input_rows» .entry)) (now («input_marks» .entry)) (now («output_table» .entry)) (now («output_marks» .entry)) (now (nodes .entry)) (now (rules .entry))) (λ (n : ℕ). At (contract symbols «input_states» (layout .states) (now (counts .entry)) (now («input_rows» .entry)) (now («input_marks» .entry)) (now («output_table» .entry)) (now («output_marks» .entry)) (now (nodes .entry)) (now (rules .entry))) limit before stood (now (lefts .entry)) (now (rights .entry)) symbols 0 0 n (now (rows .exit)) (now (words .exit))) limit (now (rows .exit)) (now (words .exit)) r ⌝ }
 {
     let mut total: usize = stood;
@@ -469,7 +475,8 @@ pub fn one_round(
     Progress::Going(total)
 }
 
-// All rounds, from the one row of the empty forest on, until a round adds nothing.
+// Rounds over the list of `stood` rows, until one adds nothing or there are more rows than marks. Of two rows below `before` the
+// pair was visited.
 pub fn all_rounds(
     symbols: usize,
     input_states: usize,
@@ -485,22 +492,31 @@ pub fn all_rounds(
     rules: &[u16],
     verdicts: Verdicts,
     limit: usize,
-    left_masks: &[u64; 80],
-    right_masks: &[u64; 80],
-    lefts: &mut [u16; 512],
-    rights: &mut [u16; 512],
-    hints: &mut [u16; 2048],
+    before: usize,
+    stood: usize,
+    left_masks: &[u64],
+    right_masks: &[u64],
+    lefts: &mut [u16],
+    rights: &mut [u16],
+    hints: &mut [u16],
     rows: &mut [u16],
     words: &mut [u64],
-) -> Progress
-    requires { ⌜ Stage (contract symbols «input_states» (layout .states) (now counts) (now «input_rows») (now «input_marks») (now «output_table») (now «output_marks») (now nodes) (now rules)) (layoutOf layout) (now offsets) (now lists) (verdicts .accepted) (verdicts .refused) × Covered (contract symbols «input_states» (layout .states) (now counts) (now «input_rows») (now «input_marks») (now «output_table») (now «output_marks») (now nodes) (now rules)) (now «left_masks») (now «right_masks») × (length (now lefts) ≡ 512) × (length (now rights) ≡ 512) × Between (contract symbols «input_states» (layout .states) (now counts) (now «input_rows») (now «input_marks») (now «output_table») (now «output_marks») (now nodes) (now rules)) limit 0 1 (now lefts) (now rights) (now rows) (now words) ⌝ }
-    ensures { λ r. ⌜ Outcome (contract symbols «input_states» (layout .states) (now (counts .entry)) (now («input_rows» .entry)) (now («input_marks» .entry)) (now («output_table» .entry)) (now («output_marks» .entry)) (now (nodes .entry)) (now (rules .entry))) (λ (n : ℕ). Passed (contract symbols «input_states» (layout .states) (now (counts .entry)) (now («input_rows» .entry)) (now («input_marks» .entry)) (now («output_table» .entry)) (now («output_marks» .entry)) (now (nodes .entry)) (now (rules .entry))) limit n (now (rows .exit)) (now (words .exit))) limit (now (rows .exit)) (now (words .exit)) r ⌝ }
+) -> Rounds
+    requires { ⌜ Stage (contract symbols «input_states» (layout .states) (now counts) (now «input_rows») (now «input_marks») (now «output_table») (now «output_marks») (now nodes) (now rules)) (layoutOf layout) (now offsets) (now lists) (verdicts .accepted) (verdicts .refused) × Covered (contract symbols «input_states» (layout .states) (now counts) (now «input_rows») (now «input_marks») (now «output_table») (now «output_marks») (now nodes) (now rules)) (now «left_masks») (now «right_masks») × (5 * symbols ≤ length (now «left_masks»)) × (5 * symbols ≤ length (now «right_masks»)) × (length (now rights) ≡ length (now lefts)) × Between (contract symbols «input_states» (layout .states) (now counts) (now «input_rows») (now «input_marks») (now «output_table») (now «output_marks») (now nodes) (now rules)) limit before stood (now rows) (now words) × (1 ≤ length (now hints)) ⌝ }
+    ensures { λ r. ⌜ Outcome (contract symbols «input_states» (layout .states) (now (counts .entry)) (now («input_rows» .entry)) (now («input_marks» .entry)) (now («output_table» .entry)) (now («output_marks» .entry)) (now (nodes .entry)) (now (rules .entry))) (λ (n : ℕ). Reached (contract symbols «input_states» (layout .states) (now (counts .entry)) (now («input_rows» .entry)) (now («input_marks» .entry)) (now («output_table» .entry)) (now («output_marks» .entry)) (now (nodes .entry)) (now (rules .entry))) limit (length (now (lefts .entry))) (r .before) n (now (rows .exit)) (now (words .exit))) limit (now (rows .exit)) (now (words .exit)) (r .ended) ⌝ }
 {
-    let mut before: usize = 0;
-    let mut stood: usize = 1;
-    while before < stood {
-        mark_rows(words, left_masks, lefts, symbols, before, stood);
-        mark_rows(words, right_masks, rights, symbols, before, stood);
+    let mut old: usize = before;
+    let mut count: usize = stood;
+    let mut marked: usize = 0;
+    while old < count {
+        if lefts.len() < count {
+            return Rounds {
+                before: old,
+                ended: Progress::Going(count),
+            };
+        }
+        mark_rows(words, left_masks, lefts, symbols, marked, count);
+        mark_rows(words, right_masks, rights, symbols, marked, count);
         let step = one_round(
             symbols,
             input_states,
@@ -516,8 +532,8 @@ pub fn all_rounds(
             rules,
             verdicts,
             limit,
-            before,
-            stood,
+            old,
+            count,
             lefts,
             rights,
             hints,
@@ -525,10 +541,17 @@ pub fn all_rounds(
             words,
         );
         let Progress::Going(total) = step else {
-            return step;
+            return Rounds {
+                before: old,
+                ended: step,
+            };
         };
-        before = stood;
-        stood = total;
+        marked = count;
+        old = count;
+        count = total;
     }
-    Progress::Going(stood)
+    Rounds {
+        before: old,
+        ended: Progress::Going(count),
+    }
 }

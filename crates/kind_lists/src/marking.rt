@@ -11,8 +11,8 @@ ghost use Rattle.kind_lists.specs.Marks.{agreesUnder, SomeEarlier, Marks
 use crate::listing::kind_at;
 
 // Whether row i agrees with a kind on what the symbol's mask shows.
-pub fn agrees(words: &[u64], i: usize, kind: &[u64; 6], masks: &[u64; 80], symbol: usize) -> bool
-    requires { ⌜ (5 * i + 5 ≤ length (now words)) × (symbol < 16) ⌝ }
+pub fn agrees(words: &[u64], i: usize, kind: &[u64; 6], masks: &[u64], symbol: usize) -> bool
+    requires { ⌜ (5 * i + 5 ≤ length (now words)) × (5 * symbol + 5 ≤ length (now masks)) ⌝ }
     ensures { λ r. ⌜ r ≡ agreesUnder (now (words .entry)) i (now (kind .entry)) (now (masks .entry)) symbol ⌝ }
 {
     let m0 = masks[5 * symbol];
@@ -31,11 +31,11 @@ pub fn in_class(
     words: &[u64],
     i: usize,
     kind: &[u64; 6],
-    masks: &[u64; 80],
-    firsts: &[u16; 512],
+    masks: &[u64],
+    firsts: &[u16],
     symbol: usize,
 ) -> bool
-    requires { ⌜ (5 * i + 5 ≤ length (now words)) × (symbol < 16) × (i < 512) ⌝ }
+    requires { ⌜ (5 * i + 5 ≤ length (now words)) × (5 * symbol + 5 ≤ length (now masks)) × (symbol < 16) × (i < length (now firsts)) ⌝ }
     ensures { λ r. ⌜ r ≡ (bit (getD (now (firsts .entry)) i 0) symbol && agreesUnder (now (words .entry)) i (now (kind .entry)) (now (masks .entry)) symbol) ⌝ }
 {
     if (firsts[i] >> symbol as u16) % 2 == 1 {
@@ -49,11 +49,11 @@ pub fn is_first(
     words: &[u64],
     j: usize,
     kind: &[u64; 6],
-    masks: &[u64; 80],
-    firsts: &[u16; 512],
+    masks: &[u64],
+    firsts: &[u16],
     symbol: usize,
 ) -> bool
-    requires { ⌜ (5 * j ≤ length (now words)) × (symbol < 16) × (j ≤ 512) × (now kind ≡ paddedKind (now words) j) ⌝ }
+    requires { ⌜ (5 * j ≤ length (now words)) × (5 * symbol + 5 ≤ length (now masks)) × (symbol < 16) × (j ≤ length (now firsts)) × (now kind ≡ paddedKind (now words) j) ⌝ }
     ensures { λ r. ⌜ (r ≡ false → SomeEarlier (now (words .entry)) (now (masks .entry)) symbol j) ⌝ }
 {
     let mut i: usize = 0;
@@ -86,14 +86,8 @@ fn bit_if(test: bool, symbol: usize) -> u16
 }
 
 // The symbols for which row j is the first of its class, a bit each.
-pub fn first_symbols(
-    words: &[u64],
-    masks: &[u64; 80],
-    firsts: &[u16; 512],
-    symbols: usize,
-    j: usize,
-) -> u16
-    requires { ⌜ (5 * j + 5 ≤ length (now words)) × (symbols ≤ 16) × (j < 512) ⌝ }
+pub fn first_symbols(words: &[u64], masks: &[u64], firsts: &[u16], symbols: usize, j: usize) -> u16
+    requires { ⌜ (5 * j + 5 ≤ length (now words)) × (5 * symbols ≤ length (now masks)) × (symbols ≤ 16) × (j ≤ length (now firsts)) ⌝ }
     ensures { λ r. ⌜ MarksOf (now (words .entry)) (now (masks .entry)) symbols j r ⌝ }
 {
     let kind = kind_at(words, j);
@@ -106,19 +100,19 @@ pub fn first_symbols(
     marks
 }
 
-// Marks the rows from `before` to `stood`.
+// Marks the rows from a row on, to `stood`.
 pub fn mark_rows(
     words: &[u64],
-    masks: &[u64; 80],
-    firsts: &mut [u16; 512],
+    masks: &[u64],
+    firsts: &mut [u16],
     symbols: usize,
-    before: usize,
+    from: usize,
     stood: usize,
 )
-    requires { ⌜ (5 * stood ≤ length (now words)) × (symbols ≤ 16) × (stood ≤ 512) × (length (now firsts) ≡ 512) ⌝ }
-    ensures { λ _. ⌜ MarkedFrom (now (words .entry)) (now (masks .entry)) symbols before stood (now (firsts .entry)) (now (firsts .exit)) ⌝ }
+    requires { ⌜ (5 * stood ≤ length (now words)) × (5 * symbols ≤ length (now masks)) × (symbols ≤ 16) × (stood ≤ length (now firsts)) ⌝ }
+    ensures { λ _. ⌜ MarkedFrom (now (words .entry)) (now (masks .entry)) symbols from stood (now (firsts .entry)) (now (firsts .exit)) ⌝ }
 {
-    let mut j: usize = before;
+    let mut j: usize = from;
     while j < stood {
         let marks = first_symbols(words, masks, firsts, symbols, j);
         firsts[j] = marks;

@@ -12,8 +12,8 @@ hint-slot-requires c κs = search needs
 mul-wide : tie.Need-mul-wide
 mul-wide c = search needs
 
-element-copy-out-wide : tie.Need-element-copy-out-wide
-element-copy-out-wide c = search needs
+slice-read-wide : tie.Need-slice-read-wide
+slice-read-wide c = search needs
 
 wide-requires : tie.Need-wide-requires
 wide-requires c κs = search needs
@@ -23,7 +23,7 @@ hint-right-requires c κs = search needs
 
 returns : tie.Need-returns
 returns c =
-    hint-listed (c .before .before .before .before .before .before .args .words .now) (c .before .before .before .before .before .before .args .count) (c .before .before .before .before .before .before .args .kind .now) (c .before .before .wide .result) (sym (c .before .hint-right .ensures) ∙ c .if1 .taken)
+    hint-listed (c .before .before .before .before .before .before .before .args .words .now) (c .before .before .before .before .before .before .before .args .count) (c .before .before .before .before .before .before .before .args .kind .now) (c .before .before .wide .result) (sym (c .before .hint-right .ensures) ∙ c .if1 .taken)
 
 find-kind-requires : tie.Need-find-kind-requires
 find-kind-requires c κs = search needs
@@ -34,17 +34,20 @@ hint-of-requires c κs = search needs
 mul-hints : tie.Need-mul-hints
 mul-hints c = search needs
 
-element-write-hints : tie.Need-element-write-hints
-element-write-hints c = search needs
+slice-write-hints : tie.Need-slice-write-hints
+slice-write-hints c = search needs
 
 is-found-requires : tie.Need-is-found-requires
 is-found-requires c κs = search needs
+
+same-length : tie.Need-same-length
+same-length c = search needs
 
 returns-2 : tie.Need-returns-2
 returns-2 c =
     c .is-found .ensures
     ∙ ap wasFound (c .before .before .find-kind .ensures)
-    ∙ was-found (c .before .before .before .before .before .before .before .before .before .args .count) (kindPlace (c .before .before .before .before .before .before .before .before .before .args .words .now) (c .before .before .before .before .before .before .before .before .before .args .count) (c .before .before .before .before .before .before .before .before .before .args .kind .now))
+    ∙ was-found (c .before .before .before .before .before .before .before .before .before .before .args .count) (kindPlace (c .before .before .before .before .before .before .before .before .before .before .args .words .now) (c .before .before .before .before .before .before .before .before .before .before .args .count) (c .before .before .before .before .before .before .before .before .before .before .args .kind .now))
 
 pub listed-spec : {M : Type 1} → statement M
 listed-spec =
@@ -52,13 +55,14 @@ listed-spec =
     (tie.spec
     hint-slot-requires
     mul-wide
-    element-copy-out-wide
+    slice-read-wide
     wide-requires
     hint-right-requires
     returns
     find-kind-requires
     hint-of-requires
     mul-hints
-    element-write-hints
+    slice-write-hints
     is-found-requires
+    same-length
     returns-2)

@@ -3,7 +3,6 @@
 use mathlib.Core.Path.{refl, sym, _∙_}
 use native.Mathlib.Omega.{arith}
 use Rattle.kind_lists.specs.Steps.{pass-left}
-use Rattle.kind_lists.proofs.Visits.{row-room}
 use Rattle.kind_lists.proofs.Stops.{begin-right, then-left}
 use borrow.Author.Needs.{needs}
 use Rattle.kind_lists.proofs.loops.left_row.Statement.{statement}
@@ -11,15 +10,15 @@ use Rattle.kind_lists.proofs.loops.left_row.Tie as tie
 
 marked-requires : tie.Need-marked-requires
 marked-requires c κs =
-    (row-room (c .before .before .before .before .before .before .before .before .before .before .pre .1) (c .before .before .before .before .before .before .before .before .before .before .args .left) (c .before .before .before .before .before .before .before .before .before .before .pre .3) .1, omega (arith, c .before .before .before .before .before .before .before .before .before .before .pre .2, c .before .before .before .before .before .before .before .before .before .before .pre .0 .prepared .established .symbols .≤most))
+    (omega (arith, c .before .before .before .before .before .before .before .before .before .before .before .before .before .pre .1 .inRound .leftRoom, c .before .before .before .before .before .before .before .before .before .before .before .before .before .pre .3), omega (arith, c .before .before .before .before .before .before .before .before .before .before .before .before .before .pre .2, c .before .before .before .before .before .before .before .before .before .before .before .before .before .pre .0 .prepared .established .symbols .≤most))
 
 first-right-requires : tie.Need-first-right-requires
 first-right-requires c κs = search needs
 
 right-rows-requires : tie.Need-right-rows-requires
 right-rows-requires c κs =
-    let (begun, inside) = begin-right refl (c .before .before .before .before .before .before .before .before .before .before .before .before .before .before .before .before .pre .2) (c .before .before .before .before .before .before .before .before .before .before .before .before .before .before .before .before .pre .3) (c .before .before .before .first-right .result) (c .before .before .before .first-right .ensures) (c .before .before .before .before .before .before .before .before .before .before .before .before .before .before .before .before .pre .1) in
-    (c .before .before .before .before .before .before .before .before .before .before .before .before .before .before .before .before .pre .0, begun, c .before .before .before .before .before .before .before .before .before .before .before .before .before .before .before .before .pre .2, c .before .before .before .before .before .before .before .before .before .before .before .before .before .before .before .before .pre .3, inside)
+    let (begun, inside) = begin-right refl (c .before .before .before .before .before .before .before .before .before .before .before .before .before .before .before .before .before .before .before .pre .2) (c .before .before .before .before .before .before .before .before .before .before .before .before .before .before .before .before .before .before .before .pre .3) (c .before .before .before .first-right .result) (c .before .before .before .first-right .ensures) (c .before .before .before .before .before .before .before .before .before .before .before .before .before .before .before .before .before .before .before .pre .1) in
+    (c .before .before .before .before .before .before .before .before .before .before .before .before .before .before .before .before .before .before .before .pre .0, begun, c .before .before .before .before .before .before .before .before .before .before .before .before .before .before .before .before .before .before .before .pre .2, c .before .before .before .before .before .before .before .before .before .before .before .before .before .before .before .before .before .before .before .pre .3, inside, c .before .before .before .before .before .before .before .before .before .before .before .before .before .before .before .before .before .before .before .pre .4)
 
 same-length : tie.Need-same-length
 same-length c = search needs
@@ -27,11 +26,14 @@ same-length c = search needs
 same-length-2 : tie.Need-same-length-2
 same-length-2 c = search needs
 
+same-length-3 : tie.Need-same-length-3
+same-length-3 c = search needs
+
 returns : tie.Need-returns
-returns c = then-left _ _ _ _ _ _ _ _ _ _ _ refl (c .before .before .before .before .right-rows .result) (c .before .before .before .before .right-rows .ensures)
+returns c = then-left _ _ _ _ _ _ _ _ _ _ _ refl (c .before .before .before .before .before .before .right-rows .result) (c .before .before .before .before .before .before .right-rows .ensures)
 
 returns-2 : tie.Need-returns-2
-returns-2 c = pass-left _ (c .before .before .before .before .before .before .before .before .before .before .before .before .pre .1) refl (c .before .before .before .before .before .before .before .before .before .before .before .before .pre .2) (c .before .before .before .before .before .before .before .before .before .before .before .before .pre .3) (sym (c .before .marked .ensures) ∙ c .if1 .left)
+returns-2 c = pass-left _ (c .before .before .before .before .before .before .before .before .before .before .before .before .before .before .before .pre .1) refl (c .before .before .before .before .before .before .before .before .before .before .before .before .before .before .before .pre .2) (c .before .before .before .before .before .before .before .before .before .before .before .before .before .before .before .pre .3) (sym (c .before .marked .ensures) ∙ c .if1 .left)
 
 pub left-row-spec : {M : Type 1} → statement M
 left-row-spec =
@@ -42,5 +44,6 @@ left-row-spec =
     right-rows-requires
     same-length
     same-length-2
+    same-length-3
     returns
     returns-2)

@@ -7,8 +7,8 @@ use Rattle.kind_lists.proofs.loops.marked.Tie as tie
 mul-result : tie.Need-mul-result
 mul-result c = search needs
 
-element-copy-out-result : tie.Need-element-copy-out-result
-element-copy-out-result c = search needs
+shared-slice-read-result : tie.Need-shared-slice-read-result
+shared-slice-read-result c = search needs
 
 shr-result : tie.Need-shr-result
 shr-result c = search needs
@@ -18,4 +18,4 @@ unfolding bit
 returns c = search needs
 
 pub marked-spec : {M : Type 1} → statement M
-marked-spec = tie.close (tie.spec mul-result element-copy-out-result shr-result returns)
+marked-spec = tie.close (tie.spec mul-result shared-slice-read-result shr-result returns)

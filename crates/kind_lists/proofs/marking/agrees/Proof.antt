@@ -10,8 +10,8 @@ mul-m0 c = search needs
 mul-m0-2 : tie.Need-mul-m0-2
 mul-m0-2 c = search needs
 
-element-copy-out-m0 : tie.Need-element-copy-out-m0
-element-copy-out-m0 c = search needs
+shared-slice-read-m0 : tie.Need-shared-slice-read-m0
+shared-slice-read-m0 c = search needs
 
 mul-m1 : tie.Need-mul-m1
 mul-m1 c = search needs
@@ -22,8 +22,8 @@ add-m1 c = search needs
 mul-m1-2 : tie.Need-mul-m1-2
 mul-m1-2 c = search needs
 
-element-copy-out-m1 : tie.Need-element-copy-out-m1
-element-copy-out-m1 c = search needs
+shared-slice-read-m1 : tie.Need-shared-slice-read-m1
+shared-slice-read-m1 c = search needs
 
 mul-m2 : tie.Need-mul-m2
 mul-m2 c = search needs
@@ -34,8 +34,8 @@ add-m2 c = search needs
 mul-m2-2 : tie.Need-mul-m2-2
 mul-m2-2 c = search needs
 
-element-copy-out-m2 : tie.Need-element-copy-out-m2
-element-copy-out-m2 c = search needs
+shared-slice-read-m2 : tie.Need-shared-slice-read-m2
+shared-slice-read-m2 c = search needs
 
 mul-m3 : tie.Need-mul-m3
 mul-m3 c = search needs
@@ -46,8 +46,8 @@ add-m3 c = search needs
 mul-m3-2 : tie.Need-mul-m3-2
 mul-m3-2 c = search needs
 
-element-copy-out-m3 : tie.Need-element-copy-out-m3
-element-copy-out-m3 c = search needs
+shared-slice-read-m3 : tie.Need-shared-slice-read-m3
+shared-slice-read-m3 c = search needs
 
 mul-m4 : tie.Need-mul-m4
 mul-m4 c = search needs
@@ -58,8 +58,8 @@ add-m4 c = search needs
 mul-m4-2 : tie.Need-mul-m4-2
 mul-m4-2 c = search needs
 
-element-copy-out-m4 : tie.Need-element-copy-out-m4
-element-copy-out-m4 c = search needs
+shared-slice-read-m4 : tie.Need-shared-slice-read-m4
+shared-slice-read-m4 c = search needs
 
 mul-result : tie.Need-mul-result
 mul-result c = search needs
@@ -143,23 +143,23 @@ agrees-spec =
     (tie.spec
     mul-m0
     mul-m0-2
-    element-copy-out-m0
+    shared-slice-read-m0
     mul-m1
     add-m1
     mul-m1-2
-    element-copy-out-m1
+    shared-slice-read-m1
     mul-m2
     add-m2
     mul-m2-2
-    element-copy-out-m2
+    shared-slice-read-m2
     mul-m3
     add-m3
     mul-m3-2
-    element-copy-out-m3
+    shared-slice-read-m3
     mul-m4
     add-m4
     mul-m4-2
-    element-copy-out-m4
+    shared-slice-read-m4
     mul-result
     mul-result-2
     shared-slice-read-result

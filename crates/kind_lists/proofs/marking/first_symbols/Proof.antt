@@ -25,7 +25,7 @@ loop-holds : tie.Need-loop-holds Inv-loop μ-loop
 loop-holds c = (c .kind-at .ensures, omega arith, λ s h1 hs u. absurd (omega arith))
 
 is-first-requires : tie.Need-is-first-requires Inv-loop μ-loop
-is-first-requires c κs = (omega arith, omega arith, omega arith, c .before .before .loop .inv .0)
+is-first-requires c κs = (omega arith, omega arith, omega arith, omega arith, c .before .before .loop .inv .0)
 
 bit-if-requires : tie.Need-bit-if-requires Inv-loop μ-loop
 bit-if-requires c κs = omega arith
@@ -37,7 +37,7 @@ loop-less : tie.Need-loop-less Inv-loop μ-loop
 loop-less c = omega arith
 
 loop-again : tie.Need-loop-again Inv-loop μ-loop
-loop-again c = (c .before .before .before .before .loop .inv .0, omega arith, marks-more (λ s. SomeEarlier (c .before .before .before .before .before .before .before .args .words .now) (c .before .before .before .before .before .before .before .args .masks .now) s (c .before .before .before .before .before .before .before .args .j)) (c .before .before .before .before .loop .marks) (c .bit-if .result) (c .before .before .before .before .loop .symbol) (c .before .is-first .result) (c .bit-if .ensures) (c .before .is-first .ensures) (c .before .before .before .before .loop .inv .2))
+loop-again c = (c .before .before .before .before .loop .inv .0, omega arith, marks-more (λ s. SomeEarlier (c .before .before .before .before .before .before .before .before .before .args .words .now) (c .before .before .before .before .before .before .before .before .before .args .masks .now) s (c .before .before .before .before .before .before .before .before .before .args .j)) (c .before .before .before .before .loop .marks) (c .bit-if .result) (c .before .before .before .before .loop .symbol) (c .before .is-first .result) (c .bit-if .ensures) (c .before .is-first .ensures) (c .before .before .before .before .loop .inv .2))
 
 returns : tie.Need-returns Inv-loop μ-loop
 returns c = record { unmarked = λ s h1 hs u. c .before .loop .inv .2 s h1 (omega (arith, c .loop-test .left)) u }

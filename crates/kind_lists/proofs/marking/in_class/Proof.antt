@@ -7,8 +7,8 @@ use Rattle.kind_lists.proofs.marking.in_class.Tie as tie
 mul-if1 : tie.Need-mul-if1
 mul-if1 c = search needs
 
-element-copy-out-if1 : tie.Need-element-copy-out-if1
-element-copy-out-if1 c = search needs
+shared-slice-read-if1 : tie.Need-shared-slice-read-if1
+shared-slice-read-if1 c = search needs
 
 cast-if1 : tie.Need-cast-if1
 cast-if1 c = search needs
@@ -28,4 +28,4 @@ returns-2 c = bit-miss _ _ _ (c .if1 .left)
 pub in-class-spec : {M : Type 1} → statement M
 in-class-spec =
     tie.close
-    (tie.spec mul-if1 element-copy-out-if1 cast-if1 shr-if1 agrees-requires returns returns-2)
+    (tie.spec mul-if1 shared-slice-read-if1 cast-if1 shr-if1 agrees-requires returns returns-2)

@@ -18,11 +18,11 @@ loop-holds : tie.Need-loop-holds Inv-loop μ-loop
 loop-holds c = omega arith
 
 in-class-requires : tie.Need-in-class-requires Inv-loop μ-loop
-in-class-requires c κs = (omega arith, omega arith, omega arith)
+in-class-requires c κs = (omega arith, omega arith, omega arith, omega arith)
 
 returns : tie.Need-returns Inv-loop μ-loop
-returns c = λ e. earlier-row (c .before .before .before .before .before .args .words .now) (c .before .before .before .before .before .args .masks .now) (c .before .before .before .before .before .args .kind .now) (c .before .before .before .before .before .args .symbol) (c .before .before .before .loop .i) (c .before .before .before .before .before .args .j)
-    (bit (getD (c .before .before .before .before .before .args .firsts .now) (c .before .before .before .loop .i) 0) (c .before .before .before .before .before .args .symbol)) (c .before .before .before .before .before .pre .3) (c .before .before .loop-test .taken) (sym (c .before .in-class .ensures) ∙ c .if1 .taken)
+returns c = λ e. earlier-row (c .before .before .before .before .before .before .before .args .words .now) (c .before .before .before .before .before .before .before .args .masks .now) (c .before .before .before .before .before .before .before .args .kind .now) (c .before .before .before .before .before .before .before .args .symbol) (c .before .before .before .loop .i) (c .before .before .before .before .before .before .before .args .j)
+    (bit (getD (c .before .before .before .before .before .before .before .args .firsts .now) (c .before .before .before .loop .i) 0) (c .before .before .before .before .before .before .before .args .symbol)) (c .before .before .before .before .before .before .before .pre .4) (c .before .before .loop-test .taken) (sym (c .before .in-class .ensures) ∙ c .if1 .taken)
 
 add-i : tie.Need-add-i Inv-loop μ-loop
 add-i c = omega arith

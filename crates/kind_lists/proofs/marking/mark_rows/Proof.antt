@@ -1,4 +1,4 @@
--- The loop's invariant: the rows from `before` to j are marked. The measure is the number of rows left.
+-- The loop's invariant: the rows from `from` to j are marked. The measure is the number of rows left.
 use Prim.Native.Nat.{_-_, _≤_}
 use native.Mathlib.Omega.{arith}
 use Rattle.kind_lists.specs.Marks.{MarkedFrom}
@@ -7,23 +7,23 @@ use Rattle.kind_lists.proofs.marking.mark_rows.Statement.{statement}
 use Rattle.kind_lists.proofs.marking.mark_rows.Tie as tie
 
 abbrev Inv-loop : tie.InvT-loop
-Inv-loop words masks firsts₀ symbols before stood j₀ firsts j =
-    (before ≤ j) × MarkedFrom words masks symbols before j firsts₀ firsts
+Inv-loop words masks firsts₀ symbols from stood j₀ firsts j =
+    (from ≤ j) × MarkedFrom words masks symbols from j firsts₀ firsts
 
 abbrev μ-loop : tie.MeasureT-loop
-μ-loop words masks firsts₀ symbols before stood j₀ firsts j = stood - j
+μ-loop words masks firsts₀ symbols from stood j₀ firsts j = stood - j
 
 loop-holds : tie.Need-loop-holds Inv-loop μ-loop
 loop-holds c = (omega arith, none-marked _ _ _ _ _)
 
 first-symbols-requires : tie.Need-first-symbols-requires Inv-loop μ-loop
-first-symbols-requires c κs = (omega arith, omega arith, omega arith)
+first-symbols-requires c κs = let long = c .before .before .loop .inv .1 .long in (omega arith, omega arith, omega arith, omega arith)
 
 mul-firsts : tie.Need-mul-firsts Inv-loop μ-loop
 mul-firsts c = omega arith
 
-element-write-firsts : tie.Need-element-write-firsts Inv-loop μ-loop
-element-write-firsts c = omega arith
+slice-write-firsts : tie.Need-slice-write-firsts Inv-loop μ-loop
+slice-write-firsts c = let long = c .before .before .before .loop .inv .1 .long in omega arith
 
 add-j : tie.Need-add-j Inv-loop μ-loop
 add-j c = omega arith
@@ -32,7 +32,10 @@ loop-less : tie.Need-loop-less Inv-loop μ-loop
 loop-less c = omega arith
 
 loop-again : tie.Need-loop-again Inv-loop μ-loop
-loop-again c = (omega (arith, c .before .before .before .loop .inv .0), marked-more _ _ _ _ (c .before .before .before .loop .j) _ (c .before .before .before .loop .firsts) (c .first-symbols .result) (c .before .before .before .loop .inv .1) (c .before .before .before .loop .inv .0) (omega (arith, c .before .before .before .before .before .pre .3, c .before .before .before .before .before .pre .2, c .before .before .loop-test .taken)) (c .first-symbols .ensures))
+loop-again c = (omega (arith, c .before .before .before .loop .inv .0), marked-more _ _ _ _ (c .before .before .before .loop .j) _ (c .before .before .before .loop .firsts) (c .first-symbols .result) (c .before .before .before .loop .inv .1) (c .before .before .before .loop .inv .0) (omega (arith, c .before .before .before .before .before .before .before .pre .3, c .before .before .loop-test .taken)) (c .first-symbols .ensures))
+
+same-length : tie.Need-same-length Inv-loop μ-loop
+same-length c = c .before .loop .inv .1 .long
 
 returns : tie.Need-returns Inv-loop μ-loop
 returns c = all-marked _ _ _ _ (c .before .loop .j) _ _ _ (omega (arith, c .loop-test .left)) (c .before .loop .inv .1)
@@ -46,8 +49,9 @@ mark-rows-spec =
     loop-holds
     first-symbols-requires
     mul-firsts
-    element-write-firsts
+    slice-write-firsts
     add-j
     loop-less
     loop-again
+    same-length
     returns)
