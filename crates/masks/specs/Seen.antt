@@ -87,7 +87,6 @@ pub record Sees (C : Contract) (s : ℕ) (onRight : Bool) (mask : List ℕ) : Ty
 
 -- the masks of the symbols below n show what those symbols can see
 pub record AllSee (C : Contract) (onRight : Bool) (n : ℕ) (masks : List ℕ) : Type 0 where
-  pub long : length masks ≡ 80
   pub sees : (s : ℕ) → 1 ≤ s → s < n → Sees C s onRight (maskIn masks s)
 
 -- two properties of each call are one
@@ -130,10 +129,6 @@ unfoldable pub stored : List ℕ → ℕ → List ℕ → List ℕ
 stored masks s mask =
     set (set (set (set (set masks (5 * s) (getD mask 0 0)) (5 * s + 1) (getD mask 1 0)) (5 * s + 2) (getD mask 2 0)) (5 * s + 3) (getD mask 3 0))
     (5 * s + 4) (getD mask 4 0)
-
-pub stored-length : (masks : List ℕ) (s : ℕ) (mask : List ℕ) → length (stored masks s mask) ≡ length masks
-unfolding stored
-stored-length masks s mask = simp length-set
 
 module _ (masks : List ℕ) (s : ℕ) (mask : List ℕ) where
   abbrev value : ℕ → ℕ
@@ -181,17 +176,13 @@ module _ (masks : List ℕ) (s : ℕ) (mask : List ℕ) where
       )
 
 -- the masks with one symbol's mask more
-pub see-more : (C : Contract) (onRight : Bool) (s : ℕ) (masks mask : List ℕ) → s < 16 → AllSee C onRight s masks → Sees C s onRight (maskIn mask 0)
+pub see-more : (C : Contract) (onRight : Bool) (s : ℕ) (masks mask : List ℕ) → 5 * s + 5 ≤ length masks → AllSee C onRight s masks → Sees C s onRight (maskIn mask 0)
     → AllSee C onRight (s + 1) (stored masks s mask)
-see-more C onRight s masks mask h all here =
-    record {
-      long = stored-length masks s mask ∙ all .long;
-      sees = λ t l k. go t l k (ℕ-discrete t s);
-    }
+see-more C onRight s masks mask h all here = record { sees = λ t l k. go t l k (ℕ-discrete t s) }
   where
     go : (t : ℕ) → 1 ≤ t → t < s + 1 → Dec (t ≡ s) → Sees C t onRight (maskIn (stored masks s mask) t)
-    go t l k (yes e) = rw e (subst (λ (m : List ℕ). Sees C s onRight m) (sym (stored-here masks s mask (omega (arith, all .long)))) here)
+    go t l k (yes e) = rw e (subst (λ (m : List ℕ). Sees C s onRight m) (sym (stored-here masks s mask h)) here)
     go t l k (no ne) = subst (λ (m : List ℕ). Sees C t onRight m) (sym (stored-other masks s mask t ne)) (all .sees t l (omega arith))
 
-pub see-none : (C : Contract) (onRight : Bool) (masks : List ℕ) → length masks ≡ 80 → AllSee C onRight 1 masks
-see-none C onRight masks e = record { long = e; sees = λ s h k. absurd (omega arith) }
+pub see-none : (C : Contract) (onRight : Bool) (masks : List ℕ) → AllSee C onRight 1 masks
+see-none C onRight masks = record { sees = λ s h k. absurd (omega arith) }

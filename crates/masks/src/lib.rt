@@ -1,7 +1,7 @@
 // The masks of what each symbol can see of a child's kind: the states that its input rows name on that side, and the facts of
 // the procedures that its rules call there.
 ghost use mathlib.Core.Path.{_≡_};
-ghost use Prim.Native.Nat.{ℕ, _+_, _<_, _≤_};
+ghost use Prim.Native.Nat.{ℕ, _+_, _*_, _<_, _≤_};
 ghost use Rattle.foundation.specs.Tests.{choose};
 ghost use lib.ListN.{length, getD, replicate};
 ghost use Rattle.model.specs.Tables.{contract, inputRow, inputRowCount, nodeAt, nodeCount};
@@ -101,8 +101,8 @@ fn put_call(
 }
 
 // Puts the mask of a symbol among the masks.
-fn store_mask(masks: &mut [u64; 80], symbol: usize, mask: &[u64; 6])
-    requires { ⌜ symbol < 16 ⌝ }
+fn store_mask(masks: &mut [u64], symbol: usize, mask: &[u64; 6])
+    requires { ⌜ 5 * symbol + 5 ≤ length (now masks) ⌝ }
     ensures { λ _. ⌜ now (masks .exit) ≡ stored (now (masks .entry)) symbol (now (mask .entry)) ⌝ }
 {
     masks[5 * symbol] = mask[0];
@@ -225,9 +225,9 @@ fn side_masks(
     offsets: &[u16; 16],
     lists: &[u16],
     on_right: bool,
-    masks: &mut [u64; 80],
+    masks: &mut [u64],
 )
-    requires { ⌜ Placed (contract symbols «input_states» «output_states» (now counts) (now «input_rows») (now «input_marks») (now «output_table») (now «output_marks») (now nodes) (now rules)) (now offsets) (now lists) × (length (now masks) ≡ 80) ⌝ }
+    requires { ⌜ Placed (contract symbols «input_states» «output_states» (now counts) (now «input_rows») (now «input_marks») (now «output_table») (now «output_marks») (now nodes) (now rules)) (now offsets) (now lists) × (5 * symbols ≤ length (now masks)) ⌝ }
     ensures { λ _. ⌜ AllSee (contract symbols «input_states» «output_states» (now (counts .entry)) (now («input_rows» .entry)) (now («input_marks» .entry)) (now («output_table» .entry)) (now («output_marks» .entry)) (now (nodes .entry)) (now (rules .entry))) «on_right» symbols (now (masks .exit)) ⌝ }
 {
     let mut s: u16 = 1;
@@ -267,10 +267,10 @@ pub fn all_masks(
     rules: &[u16],
     offsets: &[u16; 16],
     lists: &[u16],
-    left: &mut [u64; 80],
-    right: &mut [u64; 80],
+    left: &mut [u64],
+    right: &mut [u64],
 )
-    requires { ⌜ Placed (contract symbols «input_states» «output_states» (now counts) (now «input_rows») (now «input_marks») (now «output_table») (now «output_marks») (now nodes) (now rules)) (now offsets) (now lists) × (length (now left) ≡ 80) × (length (now right) ≡ 80) ⌝ }
+    requires { ⌜ Placed (contract symbols «input_states» «output_states» (now counts) (now «input_rows») (now «input_marks») (now «output_table») (now «output_marks») (now nodes) (now rules)) (now offsets) (now lists) × (5 * symbols ≤ length (now left)) × (5 * symbols ≤ length (now right)) ⌝ }
     ensures { λ _. ⌜ Covered (contract symbols «input_states» «output_states» (now (counts .entry)) (now («input_rows» .entry)) (now («input_marks» .entry)) (now («output_table» .entry)) (now («output_marks» .entry)) (now (nodes .entry)) (now (rules .entry))) (now (left .exit)) (now (right .exit)) ⌝ }
 {
     side_masks(
