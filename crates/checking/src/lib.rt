@@ -14,7 +14,8 @@ ghost use Rattle.kind_words.specs.Kind.{listsLength};
 ghost use Rattle.kind_lists.specs.Listing.{Room};
 ghost use Rattle.kind_lists.specs.Stage.{Stage};
 ghost use Rattle.kind_lists.specs.Steps.{Outcome};
-ghost use Rattle.kind_lists.specs.Between.{Passed};
+ghost use Rattle.kind_lists.specs.Marks.{Covered};
+ghost use Rattle.kind_lists.specs.Between.{Between, Passed};
 ghost use Rattle.kind_lists.specs.Closing.{Gives};
 ghost use Rattle.checking.specs.Steps.{Started};
 use admission::admit;
@@ -42,20 +43,46 @@ use reaching::lists_length;
 use reaching::most_lists;
 use tables::Symbol;
 
-fn no_masks() -> [u64; 80]
+// Room for the masks of at most four symbols.
+fn few_masks() -> [u64; 20]
+    ensures { λ r. ⌜ r ≡ replicate 20 0 ⌝ }
+{
+    [0u64; 20]
+}
+
+// Room for the masks of as many symbols as there may be.
+fn most_masks() -> [u64; 80]
     ensures { λ r. ⌜ r ≡ replicate 80 0 ⌝ }
 {
     [0u64; 80]
 }
 
-fn no_hints() -> [u16; 2048] {
-    [0u16; 2048]
+// Room for the marks of at most sixty-four rows.
+fn few_marks() -> [u16; 64]
+    ensures { λ r. ⌜ r ≡ replicate 64 0 ⌝ }
+{
+    [0u16; 64]
 }
 
-fn no_marks() -> [u16; 512]
+// Room for the marks of as many rows as there may be.
+fn most_marks() -> [u16; 512]
     ensures { λ r. ⌜ r ≡ replicate 512 0 ⌝ }
 {
     [0u16; 512]
+}
+
+// Slots for few rows.
+fn few_hints() -> [u16; 128]
+    ensures { λ r. ⌜ r ≡ replicate 128 0 ⌝ }
+{
+    [0u16; 128]
+}
+
+// Slots for many rows.
+fn most_hints() -> [u16; 2048]
+    ensures { λ r. ⌜ r ≡ replicate 2048 0 ⌝ }
+{
+    [0u16; 2048]
 }
 
 // A word of states below q, with state q where it is in.
@@ -99,6 +126,13 @@ fn wrong_size(limit: usize, rows: usize, words: usize) -> usize
     3
 }
 
+// The one slot of a table that names row 0.
+fn no_hints() -> [u16; 1]
+    ensures { λ r. ⌜ r ≡ replicate 1 0 ⌝ }
+{
+    [0u16; 1]
+}
+
 // Offers the kind of the empty forest to the empty list.
 fn first_row(
     symbols: usize,
@@ -115,7 +149,6 @@ fn first_row(
     rules: &[u16],
     verdicts: Verdicts,
     limit: usize,
-    hints: &mut [u16; 2048],
     rows: &mut [u16],
     words: &mut [u64],
 ) -> Progress
@@ -132,6 +165,7 @@ fn first_row(
         nodes,
         rules,
     );
+    let mut hints = no_hints();
     let offered = offer(
         verdicts,
         limit,
@@ -140,11 +174,167 @@ fn first_row(
         0,
         0,
         &kind,
-        hints,
+        &mut hints,
         rows,
         words,
     );
     after_offer(offered, 0)
+}
+
+// Goes on with the rounds where the rows outgrew the tables for few.
+fn many_rounds(
+    symbols: usize,
+    input_states: usize,
+    layout: Layout,
+    offsets: &[u16; 16],
+    lists: &[u16],
+    counts: &[u16],
+    input_rows: &[u16],
+    input_marks: &[u16],
+    output_table: &[u16],
+    output_marks: &[u16],
+    nodes: &[u16],
+    rules: &[u16],
+    verdicts: Verdicts,
+    limit: usize,
+    before: usize,
+    stood: usize,
+    left_masks: &[u64],
+    right_masks: &[u64],
+    rows: &mut [u16],
+    words: &mut [u64],
+) -> Progress
+    requires { ⌜ Stage (contract symbols «input_states» (layout .states) (now counts) (now «input_rows») (now «input_marks») (now «output_table») (now «output_marks») (now nodes) (now rules)) (layoutOf layout) (now offsets) (now lists) (verdicts .accepted) (verdicts .refused) × Covered (contract symbols «input_states» (layout .states) (now counts) (now «input_rows») (now «input_marks») (now «output_table») (now «output_marks») (now nodes) (now rules)) (now «left_masks») (now «right_masks») × (5 * symbols ≤ length (now «left_masks»)) × (5 * symbols ≤ length (now «right_masks»)) × Between (contract symbols «input_states» (layout .states) (now counts) (now «input_rows») (now «input_marks») (now «output_table») (now «output_marks») (now nodes) (now rules)) limit before stood (now rows) (now words) ⌝ }
+    ensures { λ r. ⌜ Outcome (contract symbols «input_states» (layout .states) (now (counts .entry)) (now («input_rows» .entry)) (now («input_marks» .entry)) (now («output_table» .entry)) (now («output_marks» .entry)) (now (nodes .entry)) (now (rules .entry))) (λ (n : ℕ). Passed (contract symbols «input_states» (layout .states) (now (counts .entry)) (now («input_rows» .entry)) (now («input_marks» .entry)) (now («output_table» .entry)) (now («output_marks» .entry)) (now (nodes .entry)) (now (rules .entry))) limit n (now (rows .exit)) (now (words .exit))) limit (now (rows .exit)) (now (words .exit)) r ⌝ }
+{
+    let mut lefts = most_marks();
+    let mut rights = most_marks();
+    let mut hints = most_hints();
+    let rounds = all_rounds(
+        symbols,
+        input_states,
+        layout,
+        offsets,
+        lists,
+        counts,
+        input_rows,
+        input_marks,
+        output_table,
+        output_marks,
+        nodes,
+        rules,
+        verdicts,
+        limit,
+        before,
+        stood,
+        left_masks,
+        right_masks,
+        &mut lefts,
+        &mut rights,
+        &mut hints,
+        rows,
+        words,
+    );
+    rounds.ended
+}
+
+// Makes the masks, and lists the kinds from round 0 on, first with tables for few rows.
+fn list_rounds(
+    symbols: usize,
+    input_states: usize,
+    layout: Layout,
+    offsets: &[u16; 16],
+    lists: &[u16],
+    counts: &[u16],
+    input_rows: &[u16],
+    input_marks: &[u16],
+    output_table: &[u16],
+    output_marks: &[u16],
+    nodes: &[u16],
+    rules: &[u16],
+    verdicts: Verdicts,
+    limit: usize,
+    left_masks: &mut [u64],
+    right_masks: &mut [u64],
+    rows: &mut [u16],
+    words: &mut [u64],
+) -> Progress
+    requires { ⌜ Stage (contract symbols «input_states» (layout .states) (now counts) (now «input_rows») (now «input_marks») (now «output_table») (now «output_marks») (now nodes) (now rules)) (layoutOf layout) (now offsets) (now lists) (verdicts .accepted) (verdicts .refused) × (5 * symbols ≤ length (now «left_masks»)) × (5 * symbols ≤ length (now «right_masks»)) × Between (contract symbols «input_states» (layout .states) (now counts) (now «input_rows») (now «input_marks») (now «output_table») (now «output_marks») (now nodes) (now rules)) limit 0 1 (now rows) (now words) ⌝ }
+    ensures { λ r. ⌜ Outcome (contract symbols «input_states» (layout .states) (now (counts .entry)) (now («input_rows» .entry)) (now («input_marks» .entry)) (now («output_table» .entry)) (now («output_marks» .entry)) (now (nodes .entry)) (now (rules .entry))) (λ (n : ℕ). Passed (contract symbols «input_states» (layout .states) (now (counts .entry)) (now («input_rows» .entry)) (now («input_marks» .entry)) (now («output_table» .entry)) (now («output_marks» .entry)) (now (nodes .entry)) (now (rules .entry))) limit n (now (rows .exit)) (now (words .exit))) limit (now (rows .exit)) (now (words .exit)) r ⌝ }
+{
+    all_masks(
+        symbols,
+        input_states,
+        layout.states,
+        counts,
+        input_rows,
+        input_marks,
+        output_table,
+        output_marks,
+        nodes,
+        rules,
+        offsets,
+        lists,
+        left_masks,
+        right_masks,
+    );
+    let mut lefts = few_marks();
+    let mut rights = few_marks();
+    let mut hints = few_hints();
+    let few = all_rounds(
+        symbols,
+        input_states,
+        layout,
+        offsets,
+        lists,
+        counts,
+        input_rows,
+        input_marks,
+        output_table,
+        output_marks,
+        nodes,
+        rules,
+        verdicts,
+        limit,
+        0,
+        1,
+        left_masks,
+        right_masks,
+        &mut lefts,
+        &mut rights,
+        &mut hints,
+        rows,
+        words,
+    );
+    let ended = few.ended;
+    let Progress::Going(stood) = ended else {
+        return ended;
+    };
+    if few.before < stood {
+        return many_rounds(
+            symbols,
+            input_states,
+            layout,
+            offsets,
+            lists,
+            counts,
+            input_rows,
+            input_marks,
+            output_table,
+            output_marks,
+            nodes,
+            rules,
+            verdicts,
+            limit,
+            few.before,
+            stood,
+            left_masks,
+            right_masks,
+            rows,
+            words,
+        );
+    }
+    ended
 }
 
 // Lists the kinds of a contract that is prepared, until the answer is known.
@@ -169,7 +359,6 @@ fn list_kinds(
     requires { ⌜ Stage (contract symbols «input_states» (layout .states) (now counts) (now «input_rows») (now «input_marks») (now «output_table») (now «output_marks») (now nodes) (now rules)) (layoutOf layout) (now offsets) (now lists) (verdicts .accepted) (verdicts .refused) × Room limit 0 (now rows) (now words) × (1 ≤ limit) ⌝ }
     ensures { λ r. ⌜ Outcome (contract symbols «input_states» (layout .states) (now (counts .entry)) (now («input_rows» .entry)) (now («input_marks» .entry)) (now («output_table» .entry)) (now («output_marks» .entry)) (now (nodes .entry)) (now (rules .entry))) (λ (n : ℕ). Passed (contract symbols «input_states» (layout .states) (now (counts .entry)) (now («input_rows» .entry)) (now («input_marks» .entry)) (now («output_table» .entry)) (now («output_marks» .entry)) (now (nodes .entry)) (now (rules .entry))) limit n (now (rows .exit)) (now (words .exit))) limit (now (rows .exit)) (now (words .exit)) r ⌝ }
 {
-    let mut hints = no_hints();
     let step = first_row(
         symbols,
         input_states,
@@ -185,34 +374,39 @@ fn list_kinds(
         rules,
         verdicts,
         limit,
-        &mut hints,
         rows,
         words,
     );
     let Progress::Going(_) = step else {
         return step;
     };
-    let mut left_masks = no_masks();
-    let mut right_masks = no_masks();
-    all_masks(
-        symbols,
-        input_states,
-        layout.states,
-        counts,
-        input_rows,
-        input_marks,
-        output_table,
-        output_marks,
-        nodes,
-        rules,
-        offsets,
-        lists,
-        &mut left_masks,
-        &mut right_masks,
-    );
-    let mut lefts = no_marks();
-    let mut rights = no_marks();
-    all_rounds(
+    if symbols <= 4 {
+        let mut left_masks = few_masks();
+        let mut right_masks = few_masks();
+        return list_rounds(
+            symbols,
+            input_states,
+            layout,
+            offsets,
+            lists,
+            counts,
+            input_rows,
+            input_marks,
+            output_table,
+            output_marks,
+            nodes,
+            rules,
+            verdicts,
+            limit,
+            &mut left_masks,
+            &mut right_masks,
+            rows,
+            words,
+        );
+    }
+    let mut left_masks = most_masks();
+    let mut right_masks = most_masks();
+    list_rounds(
         symbols,
         input_states,
         layout,
@@ -227,11 +421,8 @@ fn list_kinds(
         rules,
         verdicts,
         limit,
-        &left_masks,
-        &right_masks,
-        &mut lefts,
-        &mut rights,
-        &mut hints,
+        &mut left_masks,
+        &mut right_masks,
         rows,
         words,
     )
