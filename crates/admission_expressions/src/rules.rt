@@ -1,9 +1,9 @@
 // Refusal 7: rules.
 use crate::uses::fill_calls;
 use crate::uses::fill_greatest;
-use admission_tables::reading::number_at;
 use admission_tables::reading::test_at;
 use tables::Rule;
+use tables::number_at;
 use tables::rule_at;
 ghost use mathlib.Core.Path.{_≡_};
 ghost use Prim.Native.Nat.{_≤_};

@@ -1,10 +1,10 @@
 // What a node uses, directly or below: for every node at once, in one ascending pass, so that a shared node is never
 // followed again.
-use crate::nodes::reference_count;
-use admission_tables::reading::number_at;
 use admission_tables::reading::test_at;
 use tables::Node;
 use tables::node_at;
+use tables::number_at;
+use tables::reference_count;
 ghost use mathlib.Core.Path.{_≡_};
 ghost use Prim.Native.Nat.{max, _≤_};
 ghost use lib.ListN.{length};
