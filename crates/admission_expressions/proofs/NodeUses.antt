@@ -55,23 +55,20 @@ module _ (S : ℕ) (counts nodes : List ℕ) (k : ℕ) where
 
 -- the pass over the nodes: entry k is computed from those before it, and stands
 module _ (counts nodes : List ℕ) (good : GoodNodes counts nodes) (k : ℕ) (h : k < nodeCount nodes) where
-  within : {A : Type 0} (table : List A) → length table ≡ 256 → k < length table
-  within table e = let few = good .few in omega arith
-
-  pub greatest-more : (table : List ℕ) → length table ≡ 256 → GreatestKnown counts nodes k table
+  pub greatest-more : (table : List ℕ) → nodeCount nodes ≤ length table → GreatestKnown counts nodes k table
       → (n : Node) → n ≡ nodeAt nodes k
       → (v : ℕ) → v ≡ greatestOver counts table n
       → GreatestKnown counts nodes (k + 1) (set table k v)
-  greatest-more table e known n at v is =
-      filled-more (λ j. greatestParameter (expression counts nodes j)) 0 table k v (within table e) known
+  greatest-more table room known n at v is =
+      filled-more (λ j. greatestParameter (expression counts nodes j)) 0 table k v (omega arith) known
       (is ∙ ap (λ (m : Node). greatestOver counts table m) at ∙ greatest-good (good .symbols) counts nodes k table known (good .good k h))
 
-  pub call-more : (table : List Bool) → length table ≡ 256 → CallsKnown counts nodes k table
+  pub call-more : (table : List Bool) → nodeCount nodes ≤ length table → CallsKnown counts nodes k table
       → (n : Node) → n ≡ nodeAt nodes k
       → (v : Bool) → v ≡ callOver counts table n
       → CallsKnown counts nodes (k + 1) (set table k v)
-  call-more table e known n at v is =
-      filled-more (λ j. holdsCall (expression counts nodes j)) false table k v (within table e) known
+  call-more table room known n at v is =
+      filled-more (λ j. holdsCall (expression counts nodes j)) false table k v (omega arith) known
       (is ∙ ap (λ (m : Node). callOver counts table m) at ∙ call-good (good .symbols) counts nodes k table known (good .good k h))
 
 -- a rule's node that does not exist is bad whatever it is said to use

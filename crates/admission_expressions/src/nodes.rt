@@ -1,28 +1,12 @@
 // Refusal 6: expression nodes.
-use admission_tables::reading::number_at;
 use tables::Node;
 use tables::node_at;
+use tables::reference_count;
 ghost use mathlib.Core.Path.{_≡_};
 ghost use Rattle.foundation.specs.Search.{first};
 ghost use Rattle.model.specs.Tables.{nodeAt, nodeCount};
-ghost use Rattle.model.specs.Admission.{references, nameWrong, childWrong, referenceWrong, unusedFilled, nodeWrong};
+ghost use Rattle.model.specs.Admission.{nameWrong, childWrong, referenceWrong, unusedFilled, nodeWrong};
 ghost use Rattle.tables.specs.Tuples.{nodeOf};
-
-// How many smaller nodes a node refers to.
-pub fn reference_count(counts: &[u16], node: Node) -> u16
-    ensures { λ r. ⌜ r ≡ references (now (counts .entry)) (nodeOf node) ⌝ }
-{
-    if node.tag == 1 {
-        if node.name == 0 {
-            return 0;
-        }
-        return 2;
-    }
-    if node.tag == 2 {
-        return number_at(counts, node.name as usize);
-    }
-    0
-}
 
 // A node's name is no parameter, no symbol or no procedure.
 fn name_wrong(symbols: usize, counts: &[u16], node: Node) -> bool

@@ -1,11 +1,13 @@
 // Refusal 7: rules.
-use crate::uses::calls_held;
-use crate::uses::greatest_parameters;
-use admission_tables::reading::number_at;
+use crate::uses::fill_calls;
+use crate::uses::fill_greatest;
 use admission_tables::reading::test_at;
 use tables::Rule;
+use tables::number_at;
 use tables::rule_at;
 ghost use mathlib.Core.Path.{_≡_};
+ghost use Prim.Native.Nat.{_≤_};
+ghost use lib.ListN.{length};
 ghost use Rattle.foundation.specs.Search.{first};
 ghost use Rattle.model.specs.Tables.{nodeCount, ruleAt, ruleCount};
 ghost use Rattle.model.specs.Admission.{ruleWrong};
@@ -35,21 +37,61 @@ fn rule_wrong(
         | ((symbol == 0) & test_at(calls, node))
 }
 
-// The first bad rule, or how many there are.
-pub fn first_bad_rule(symbols: usize, counts: &[u16], nodes: &[u16], rules: &[u16]) -> usize
-    requires { ⌜ GoodNodes (now counts) (now nodes) ⌝ }
+// The first bad rule, or how many there are, by the tables of what the nodes use.
+fn first_by_tables(
+    symbols: usize,
+    counts: &[u16],
+    nodes: &[u16],
+    greatest: &[u16],
+    calls: &[bool],
+    rules: &[u16],
+) -> usize
+    requires { ⌜ GreatestKnown (now counts) (now nodes) (nodeCount (now nodes)) (now greatest) ⌝ }
+    requires { ⌜ CallsKnown (now counts) (now nodes) (nodeCount (now nodes)) (now calls) ⌝ }
     ensures { λ r. ⌜ r ≡ first (λ k. ruleWrong symbols (now (counts .entry)) (now (nodes .entry)) (ruleAt (now (rules .entry)) k))
         (ruleCount (now (rules .entry))) ⌝ }
 {
-    let greatest = greatest_parameters(counts, nodes);
-    let calls = calls_held(counts, nodes);
     let n = rules.len() / 3;
     let mut k = 0;
     while k < n {
-        if rule_wrong(symbols, counts, nodes, &greatest, &calls, rule_at(rules, k)) {
+        if rule_wrong(symbols, counts, nodes, greatest, calls, rule_at(rules, k)) {
             return k;
         }
         k += 1;
     }
     n
+}
+
+// The first bad rule, or how many there are, with room for the two tables.
+fn first_with_room(
+    symbols: usize,
+    counts: &[u16],
+    nodes: &[u16],
+    greatest: &mut [u16],
+    calls: &mut [bool],
+    rules: &[u16],
+) -> usize
+    requires { ⌜ GoodNodes (now counts) (now nodes) × (nodeCount (now nodes) ≤ length (now greatest)) × (nodeCount (now nodes) ≤ length (now calls)) ⌝ }
+    ensures { λ r. ⌜ r ≡ first (λ k. ruleWrong symbols (now (counts .entry)) (now (nodes .entry)) (ruleAt (now (rules .entry)) k))
+        (ruleCount (now (rules .entry))) ⌝ }
+{
+    fill_greatest(counts, nodes, greatest);
+    fill_calls(counts, nodes, calls);
+    first_by_tables(symbols, counts, nodes, greatest, calls, rules)
+}
+
+// The first bad rule, or how many there are. The two tables have room for sixteen nodes or for as many as there may be.
+pub fn first_bad_rule(symbols: usize, counts: &[u16], nodes: &[u16], rules: &[u16]) -> usize
+    requires { ⌜ GoodNodes (now counts) (now nodes) ⌝ }
+    ensures { λ r. ⌜ r ≡ first (λ k. ruleWrong symbols (now (counts .entry)) (now (nodes .entry)) (ruleAt (now (rules .entry)) k))
+        (ruleCount (now (rules .entry))) ⌝ }
+{
+    if nodes.len() <= 80 {
+        let mut greatest = [0u16; 16];
+        let mut calls = [false; 16];
+        return first_with_room(symbols, counts, nodes, &mut greatest, &mut calls, rules);
+    }
+    let mut greatest = [0u16; 256];
+    let mut calls = [false; 256];
+    first_with_room(symbols, counts, nodes, &mut greatest, &mut calls, rules)
 }

@@ -1,29 +1,16 @@
 // What a node uses, directly or below: for every node at once, in one ascending pass, so that a shared node is never
 // followed again.
-use crate::nodes::reference_count;
-use admission_tables::reading::number_at;
 use admission_tables::reading::test_at;
 use tables::Node;
 use tables::node_at;
+use tables::number_at;
+use tables::reference_count;
 ghost use mathlib.Core.Path.{_≡_};
-ghost use mathlib.Core.Bool.{false};
-ghost use Prim.Native.Nat.{max};
-ghost use lib.ListN.{replicate};
+ghost use Prim.Native.Nat.{max, _≤_};
+ghost use lib.ListN.{length};
 ghost use Rattle.model.specs.Tables.{nodeCount};
 ghost use Rattle.tables.specs.Tuples.{nodeOf};
 ghost use Rattle.admission_expressions.specs.Uses.{GoodNodes, greatestOver, callOver, GreatestKnown, CallsKnown};
-
-fn zeros() -> [u16; 256]
-    ensures { λ r. ⌜ r ≡ replicate 256 0 ⌝ }
-{
-    [0u16; 256]
-}
-
-fn no_tests() -> [bool; 256]
-    ensures { λ r. ⌜ r ≡ replicate 256 false ⌝ }
-{
-    [false; 256]
-}
 
 fn greater(a: u16, b: u16) -> u16
     ensures { λ r. ⌜ r ≡ max a b ⌝ }
@@ -52,19 +39,17 @@ fn greatest_of(counts: &[u16], smaller: &[u16], node: Node) -> u16
     greater(first, number_at(smaller, node.second as usize))
 }
 
-// The greatest parameter that each node uses.
-pub fn greatest_parameters(counts: &[u16], nodes: &[u16]) -> [u16; 256]
-    requires { ⌜ GoodNodes (now counts) (now nodes) ⌝ }
-    ensures { λ r. ⌜ GreatestKnown (now (counts .entry)) (now (nodes .entry)) (nodeCount (now (nodes .entry))) r ⌝ }
+// Fills a table, from its start, with the greatest parameter that each node uses.
+pub fn fill_greatest(counts: &[u16], nodes: &[u16], greatest: &mut [u16])
+    requires { ⌜ GoodNodes (now counts) (now nodes) × (nodeCount (now nodes) ≤ length (now greatest)) ⌝ }
+    ensures { λ _. ⌜ GreatestKnown (now (counts .entry)) (now (nodes .entry)) (nodeCount (now (nodes .entry))) (now (greatest .exit)) ⌝ }
 {
     let n = nodes.len() / 5;
-    let mut greatest = zeros();
     let mut k = 0;
     while k < n {
-        greatest[k] = greatest_of(counts, &greatest, node_at(nodes, k));
+        greatest[k] = greatest_of(counts, greatest, node_at(nodes, k));
         k += 1;
     }
-    greatest
 }
 
 // A node holds a call, by whether the nodes below it do.
@@ -80,17 +65,15 @@ fn call_of(counts: &[u16], smaller: &[bool], node: Node) -> bool
     test_at(smaller, node.first as usize) | test_at(smaller, node.second as usize)
 }
 
-// Whether each node holds a call.
-pub fn calls_held(counts: &[u16], nodes: &[u16]) -> [bool; 256]
-    requires { ⌜ GoodNodes (now counts) (now nodes) ⌝ }
-    ensures { λ r. ⌜ CallsKnown (now (counts .entry)) (now (nodes .entry)) (nodeCount (now (nodes .entry))) r ⌝ }
+// Fills a table, from its start, with whether each node holds a call.
+pub fn fill_calls(counts: &[u16], nodes: &[u16], calls: &mut [bool])
+    requires { ⌜ GoodNodes (now counts) (now nodes) × (nodeCount (now nodes) ≤ length (now calls)) ⌝ }
+    ensures { λ _. ⌜ CallsKnown (now (counts .entry)) (now (nodes .entry)) (nodeCount (now (nodes .entry))) (now (calls .exit)) ⌝ }
 {
     let n = nodes.len() / 5;
-    let mut calls = no_tests();
     let mut k = 0;
     while k < n {
-        calls[k] = call_of(counts, &calls, node_at(nodes, k));
+        calls[k] = call_of(counts, calls, node_at(nodes, k));
         k += 1;
     }
-    calls
 }

@@ -1,7 +1,7 @@
 // Refusals 3, 4 and 5: input rows, marks and output entries, parameter counts.
-use crate::reading::number_at;
 use tables::InputRow;
 use tables::input_row_at;
+use tables::number_at;
 ghost use mathlib.Core.Path.{_≡_};
 ghost use Prim.Native.Nat.{_+_, _≤_};
 ghost use lib.ListN.{length};

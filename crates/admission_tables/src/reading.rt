@@ -1,18 +1,8 @@
-// Numbers read at any place, and the search among tests that are worked out beforehand.
+// Tests read at any place, and the search among tests that are worked out beforehand.
 ghost use mathlib.Core.Path.{_≡_};
 ghost use mathlib.Core.Bool.{false};
 ghost use lib.ListN.{length, getD};
 ghost use Rattle.foundation.specs.Search.{first};
-
-// The number at a place of a table, and 0 past its end.
-pub fn number_at(table: &[u16], k: usize) -> u16
-    ensures { λ r. ⌜ r ≡ getD (now (table .entry)) k 0 ⌝ }
-{
-    if k < table.len() {
-        return table[k];
-    }
-    0
-}
 
 // The test at a place of a table, false past its end.
 pub fn test_at(tests: &[bool], k: usize) -> bool

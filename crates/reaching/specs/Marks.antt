@@ -157,15 +157,6 @@ module _ {counts nodes : List ℕ} (good : NodesGood counts nodes) (n : ℕ) (hn
       go (good-symbol t a b c d) = d
       go (good-call t a b c d) = d (rw (ne-eqb (node .tag) 1 (λ e. omega arith), eq-eqb (node .tag) 2 t) at h)
 
-  pub called-known : node .tag ≡ 2 → node .name < length counts
-  called-known e = go (good .node n hn)
-    where
-      go : GoodNode (good .symbols) counts n node → node .name < length counts
-      go (good-parameter t a b) = absurd (omega arith)
-      go (good-nothing t z) = absurd (omega arith)
-      go (good-symbol t a b c d) = absurd (omega arith)
-      go (good-call t a b c d) = a
-
   -- one node more: what it refers to is below it, so that no mark from it on changes
   pub closed-more : (before marks more : List ℕ) → Closed counts nodes (suc n) before marks → more ≡ referredMarked counts nodes marks n
       → Closed counts nodes n before more

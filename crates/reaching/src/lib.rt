@@ -6,8 +6,6 @@ ghost use Prim.Native.Nat.{ℕ, _+_, _*_, _/_, _<_, _≤_};
 ghost use lib.ListN.{length, getD, set, replicate};
 ghost use lib.Dec.{ltb};
 ghost use Rattle.model.specs.Tables.{inputRowCount, nodeCount, ruleAt, ruleCount};
-ghost use Rattle.model.specs.Admission.{references};
-ghost use Rattle.tables.specs.Tuples.{nodeOf};
 ghost use Rattle.kind_words.specs.Kind.{ListsFor, RulesChained, listsLength};
 ghost use Rattle.reaching.specs.Marks.{markedIf, referredMarked, Closed, RulesMarked, counted, NodesGood, RulesGood, RowsGood};
 ghost use Rattle.reaching.specs.Listing.{Listing, SymbolListed, ListedTo};
@@ -19,6 +17,7 @@ use tables::Node;
 use tables::Rule;
 use tables::Symbol;
 use tables::node_at;
+use tables::reference_count;
 use tables::rule_at;
 
 // Room for the marks of at most sixteen nodes.
@@ -45,23 +44,6 @@ fn mark(marks: &mut [u16], used: bool, n: u16)
     }
 }
 
-// How many nodes a node refers to.
-fn references_of(counts: &[u16], node: Node) -> u16
-    requires { ⌜ (node .tag ≡ 2 → node .name < length (now counts)) ⌝ }
-    ensures { λ r. ⌜ r ≡ references (now (counts .entry)) (nodeOf node) ⌝ }
-{
-    if node.tag == 1 {
-        if node.name == 0 {
-            return 0;
-        }
-        return 2;
-    }
-    if node.tag == 2 {
-        return counts[place(node.name)];
-    }
-    0
-}
-
 // Marks what node n refers to, if it is marked.
 fn mark_referred(counts: &[u16], nodes: &[u16], marks: &mut [u16], n: usize)
     requires { ⌜ NodesGood (now counts) (now nodes) × (n < nodeCount (now nodes)) × (nodeCount (now nodes) ≤ length (now marks)) ⌝ }
@@ -69,7 +51,7 @@ fn mark_referred(counts: &[u16], nodes: &[u16], marks: &mut [u16], n: usize)
 {
     if marks[n] == 1 {
         let node = node_at(nodes, n);
-        let count = references_of(counts, node);
+        let count = reference_count(counts, node);
         mark(marks, 1 <= count, node.first);
         mark(marks, 2 <= count, node.second);
     }

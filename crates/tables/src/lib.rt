@@ -1,11 +1,13 @@
-// Typed numbers, and the tuples of the tables read by name.
+// Typed numbers, the tuples of the tables read by name, and how many nodes a node refers to.
 //
 // An input state, an output state, a procedure and a symbol are each a type of their own, so that code that hands one
 // where another is due does not build. A size (how many symbols there are) and a node or row number are plain numbers.
 ghost use mathlib.Core.Path.{_≡_};
 ghost use Prim.Native.Nat.{_<_};
+ghost use lib.ListN.{getD};
 ghost use Rattle.model.specs.Rows.{rowAt, rowCount};
 ghost use Rattle.model.specs.Tables.{inputRow, inputRowCount, nodeAt, nodeCount, ruleAt, ruleCount};
+ghost use Rattle.model.specs.Admission.{references};
 ghost use Rattle.tables.specs.Tuples.{inputRowOf, nodeOf, ruleOf, rowOf};
 
 pub struct Symbol(pub u16);
@@ -47,6 +49,16 @@ pub struct Row {
     pub right: u16,
 }
 
+// The number at a place of a table, and 0 past its end.
+pub fn number_at(table: &[u16], k: usize) -> u16
+    ensures { λ r. ⌜ r ≡ getD (now (table .entry)) k 0 ⌝ }
+{
+    if k < table.len() {
+        return table[k];
+    }
+    0
+}
+
 // Row k of an input type.
 pub fn input_row_at(rows: &[u16], k: usize) -> InputRow
     requires { ⌜ k < inputRowCount (now rows) ⌝ }
@@ -72,6 +84,22 @@ pub fn node_at(nodes: &[u16], k: usize) -> Node
         first: nodes[5 * k + 3],
         second: nodes[5 * k + 4],
     }
+}
+
+// How many smaller nodes a node refers to.
+pub fn reference_count(counts: &[u16], node: Node) -> u16
+    ensures { λ r. ⌜ r ≡ references (now (counts .entry)) (nodeOf node) ⌝ }
+{
+    if node.tag == 1 {
+        if node.name == 0 {
+            return 0;
+        }
+        return 2;
+    }
+    if node.tag == 2 {
+        return number_at(counts, node.name as usize);
+    }
+    0
 }
 
 // Rule k.

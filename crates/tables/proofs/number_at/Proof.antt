@@ -2,8 +2,8 @@
 use mathlib.Core.Path.{sym}
 use borrow.Author.Needs.{needs}
 use lib.ListN.{List·getD-eq-default}
-use Rattle.admission_tables.proofs.reading.number_at.Statement.{statement}
-use Rattle.admission_tables.proofs.reading.number_at.Tie as tie
+use Rattle.tables.proofs.number_at.Statement.{statement}
+use Rattle.tables.proofs.number_at.Tie as tie
 
 mul-result : tie.Need-mul-result
 mul-result c = search needs

@@ -1,8 +1,8 @@
 -- `reference_count`: by the tag and the name, as the definition chooses.
 use borrow.Author.Tests.{ne-eqb}
 use borrow.Author.Needs.{needs}
-use Rattle.admission_expressions.proofs.nodes.reference_count.Statement.{statement}
-use Rattle.admission_expressions.proofs.nodes.reference_count.Tie as tie
+use Rattle.tables.proofs.reference_count.Statement.{statement}
+use Rattle.tables.proofs.reference_count.Tie as tie
 
 returns : tie.Need-returns
 returns c = rw (c .before .before .if1 .taken, c .if2 .taken)
