@@ -1,6 +1,7 @@
--- Equations of tests: what a connective gives beside a constant, and "some number below n" beside a single number.
+-- Equations of tests: what a connective gives beside a constant, the parts of one that fails, and "some number below n" beside a
+-- single number.
 use mathlib.Core.Path.{_≡_, refl, ap, sym, _∙_}
-use mathlib.Core.Bool.{Bool, true, false}
+use mathlib.Core.Bool.{Bool, true, false, _||_, true≢false}
 use Prim.Native.Nat.{ℕ, zero, suc, _<_}
 use native.Mathlib.Nat.{not-suc-le-zero}
 use native.Mathlib.Omega.{arith}
@@ -40,6 +41,15 @@ or-false false b e = e
 pub false-or : (a b : Bool) → a ≡ false → (a or b) ≡ b
 unfolding _or_
 false-or a b e = rw e
+
+-- a disjunction that fails, part by part
+pub or-first : (a b : Bool) → (a || b) ≡ false → a ≡ false
+or-first true b e = e
+or-first false b e = refl
+
+pub or-second : (a b : Bool) → (a || b) ≡ false → b ≡ false
+or-second true b e = absurd (true≢false e)
+or-second false b e = e
 
 pub same-yes : (m n : ℕ) → m ≡ n → same m n ≡ true
 unfolding same

@@ -1,5 +1,6 @@
 // The words that begin statements.
 ghost use mathlib.Core.Path.{_≡_};
+ghost use Rattle.foundation.specs.Tests.{choose};
 ghost use Rattle.foundation.specs.Lists.{sameList};
 ghost use Rattle.lexing.specs.Words.{wordOf, tableWord, questionWord};
 
@@ -53,77 +54,68 @@ pub fn same(a: &[u8], b: &[u8]) -> bool
     true
 }
 
+// The word that is meant where the token is spelled so, otherwise another. The words below stand from the last to the first.
+fn or_word(token: &[u8], spelling: &[u8], meant: Word, other: Word) -> Word
+    ensures { λ r. ⌜ r ≡ choose (sameList (now (token .entry)) (now (spelling .entry))) meant other ⌝ }
+{
+    if same(token, spelling) {
+        return meant;
+    }
+    other
+}
+
 // A word that asks a question.
 fn question_word(token: &[u8]) -> Word
     ensures { λ r. ⌜ r ≡ questionWord (now (token .entry)) ⌝ }
 {
-    if same(token, b"admit") {
-        return Word::Admit;
-    }
-    if same(token, b"judge") {
-        return Word::Judge;
-    }
-    if same(token, b"check") {
-        return Word::Check;
-    }
-    if same(token, b"run") {
-        return Word::Run;
-    }
-    if same(token, b"write") {
-        return Word::Write;
-    }
-    if same(token, b"show") {
-        return Word::Show;
-    }
-    Word::Unknown
+    let rest = or_word(token, b"show", Word::Show, Word::Unknown);
+    let rest = or_word(token, b"write", Word::Write, rest);
+    let rest = or_word(token, b"run", Word::Run, rest);
+    let rest = or_word(token, b"check", Word::Check, rest);
+    let rest = or_word(token, b"judge", Word::Judge, rest);
+    or_word(token, b"admit", Word::Admit, rest)
 }
 
 // A word that sets a table, or asks a question.
 fn table_word(token: &[u8]) -> Word
     ensures { λ r. ⌜ r ≡ tableWord (now (token .entry)) ⌝ }
 {
-    if same(token, b"counts") {
-        return Word::Table(Table::Counts);
-    }
-    if same(token, b"input-rows") {
-        return Word::Table(Table::InputRows);
-    }
-    if same(token, b"input-marks") {
-        return Word::Table(Table::InputMarks);
-    }
-    if same(token, b"output-table") {
-        return Word::Table(Table::OutputTable);
-    }
-    if same(token, b"output-marks") {
-        return Word::Table(Table::OutputMarks);
-    }
-    if same(token, b"nodes") {
-        return Word::Table(Table::Nodes);
-    }
-    if same(token, b"rules") {
-        return Word::Table(Table::Rules);
-    }
-    question_word(token)
+    let rest = or_word(
+        token,
+        b"rules",
+        Word::Table(Table::Rules),
+        question_word(token),
+    );
+    let rest = or_word(token, b"nodes", Word::Table(Table::Nodes), rest);
+    let rest = or_word(
+        token,
+        b"output-marks",
+        Word::Table(Table::OutputMarks),
+        rest,
+    );
+    let rest = or_word(
+        token,
+        b"output-table",
+        Word::Table(Table::OutputTable),
+        rest,
+    );
+    let rest = or_word(token, b"input-marks", Word::Table(Table::InputMarks), rest);
+    let rest = or_word(token, b"input-rows", Word::Table(Table::InputRows), rest);
+    or_word(token, b"counts", Word::Table(Table::Counts), rest)
 }
 
 // The word that a token is.
 pub fn read_word(token: &[u8]) -> Word
     ensures { λ r. ⌜ r ≡ wordOf (now (token .entry)) ⌝ }
 {
-    if same(token, b"case") {
-        return Word::Case;
-    }
-    if same(token, b"symbols") {
-        return Word::Size(Size::Symbols);
-    }
-    if same(token, b"input-states") {
-        return Word::Size(Size::InputStates);
-    }
-    if same(token, b"output-states") {
-        return Word::Size(Size::OutputStates);
-    }
-    if same(token, b"rows") {
-        return Word::Rows;
-    }
-    table_word(token)
+    let rest = or_word(token, b"rows", Word::Rows, table_word(token));
+    let rest = or_word(
+        token,
+        b"output-states",
+        Word::Size(Size::OutputStates),
+        rest,
+    );
+    let rest = or_word(token, b"input-states", Word::Size(Size::InputStates), rest);
+    let rest = or_word(token, b"symbols", Word::Size(Size::Symbols), rest);
+    or_word(token, b"case", Word::Case, rest)
 }

@@ -1,6 +1,6 @@
 -- Admission, the tests of the buffer and of the document, and what is known of a contract and a document that pass.
 use mathlib.Core.Path.{_≡_, refl, ap, sym}
-use mathlib.Core.Bool.{Bool, true, false, not, _||_, true≢false}
+use mathlib.Core.Bool.{true, false, not}
 use mathlib.Core.List.{List, [], _∷_, _++_}
 use Prim.Native.Nat.{ℕ, zero, suc, _%_, _<_, _≤_}
 use native.Mathlib.Nat.{not-suc-le-zero, le-of-suc-le-suc}
@@ -8,6 +8,7 @@ use native.Mathlib.Omega.{arith}
 use lib.Dec.{eqb, ltb}
 use lib.ListN.{length, getD}
 use borrow.Author.Tests.{ltb-false}
+use Rattle.foundation.specs.TestLaws.{or-second}
 use Rattle.model.specs.Trees.{Tree, empty, node, Over, preorder}
 use Rattle.model.specs.Tables.{Transformation, Contract}
 use Rattle.model.specs.Answers.{fine, Answer, admitted, refusal, refuseIf, _then_, given}
@@ -67,10 +68,6 @@ module _ (S : ℕ) (numbers : List ℕ) (known : Document S numbers) where
 -- a buffer that passes is small
 pub rows-few : (n : ℕ) → rowsWrong n ≡ false → n ≤ 12288
 rows-few n e = ltb-false 12288 n (or-second (not (eqb (n % 3) 0)) (ltb 12288 n) e)
-  where
-    or-second : (a b : Bool) → (a || b) ≡ false → b ≡ false
-    or-second true b e = absurd (true≢false e)
-    or-second false b e = e
 
 module _ (T : Transformation) (numbers buffer : List ℕ) where
   pub buffer-refused : rowsWrong (length buffer) ≡ true → EndsWith (afterAdmission T numbers buffer) (refusal 9 0) buffer

@@ -58,7 +58,7 @@ unfolding computing
 large = refl
 
 --  help /
--- prints ?
+-- prints the help text, for which the one byte `?` stands here
 pub helps : meaning (63 ∷ []) (32 ∷ 104 ∷ 101 ∷ 108 ∷ 112 ∷ 10 ∷ []) ≡ 63 ∷ []
 unfolding computing
 helps = refl

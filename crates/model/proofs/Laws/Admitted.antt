@@ -9,6 +9,7 @@ use native.Mathlib.Decide.{ℕ-discrete}
 use borrow.Author.Tests.{ltb-true, ltb-false, leb-false, eqb-true, not-false, lt-ltb, le-ltb, le-leb, eq-eqb, ne-eqb}
 use lib.Dec.{ltb, leb, eqb}
 use lib.ListN.{length, getD, List·getD-eq-default}
+use Rattle.foundation.specs.TestLaws.{or-first, or-second}
 use Rattle.model.specs.Tables.{Contract, InputRow, inputRow, inputRowCount, Node, nodeAt, nodeCount, Rule, ruleAt, ruleCount, countOf, markAt}
 use Rattle.model.specs.Expressions.{expression, greatestParameter, holdsCall}
 use Rattle.model.specs.Facts.{factTotal}
@@ -16,15 +17,6 @@ use Rattle.model.specs.Answers.{fine, refuseFirst, admitted}
 use Rattle.model.specs.Admission.{outside, sizeWrong, tuplesWrong, tableLength, lengthWrong, inputRowWrong, entryWrong, countWrong, references, tagWrong, nameWrong, childWrong, referenceWrong, unusedFilled, nodeWrong, ruleWrong, mostFacts, sizes, lengths, inputRows, entries, counts, nodes, rules, facts, admission, admit}
 use Rattle.model.proofs.Laws.Answers.{then-fine-left, then-fine-right, refuse-if-fine, refuse-first-fine, given-admitted, NumbersTo, then-numbers, refuse-if-numbers, refuse-first-numbers}
 use Rattle.model.proofs.Laws.Established.{Between, WholeTuples, GoodInputRow, GoodNode, good-parameter, good-nothing, good-symbol, good-call, GoodRule, Established}
-
--- a disjunction that fails, part by part
-or-left : (a b : Bool) → (a || b) ≡ false → a ≡ false
-or-left true b e = e
-or-left false b e = refl
-
-or-right : (a b : Bool) → (a || b) ≡ false → b ≡ false
-or-right true b e = absurd (true≢false e)
-or-right false b e = e
 
 -- a conjunction that fails though its first part holds, and one that does not fail
 and-right : (a b : Bool) → (a && b) ≡ false → a ≡ true → b ≡ false
@@ -46,20 +38,20 @@ record NoneOf (a b c d e : Bool) : Type 0 where
 
 none-of : (a b c d e : Bool) → (a || b || c || d || e) ≡ false → NoneOf a b c d e
 none-of a b c d e h =
-    let abcd : (a || b || c || d) ≡ false = or-left (a || b || c || d) e h in
-    let abc : (a || b || c) ≡ false = or-left (a || b || c) d abcd in
-    let ab : (a || b) ≡ false = or-left (a || b) c abc in
+    let abcd : (a || b || c || d) ≡ false = or-first (a || b || c || d) e h in
+    let abc : (a || b || c) ≡ false = or-first (a || b || c) d abcd in
+    let ab : (a || b) ≡ false = or-first (a || b) c abc in
     record {
-      one = or-left a b ab;
-      two = or-right a b ab;
-      three = or-right (a || b) c abc;
-      four = or-right (a || b || c) d abcd;
-      five = or-right (a || b || c || d) e h;
+      one = or-first a b ab;
+      two = or-second a b ab;
+      three = or-second (a || b) c abc;
+      four = or-second (a || b || c) d abcd;
+      five = or-second (a || b || c || d) e h;
     }
 
 inside : (least most n : ℕ) → outside least most n ≡ false → Between least most n
 inside least most n h =
-    record { least≤ = ltb-false n least (or-left _ (ltb most n) h); ≤most = ltb-false most n (or-right (ltb n least) _ h) }
+    record { least≤ = ltb-false n least (or-first _ (ltb most n) h); ≤most = ltb-false most n (or-second (ltb n least) _ h) }
 
 not-eqb : (m n : ℕ) → not (eqb m n) ≡ false → m ≡ n
 not-eqb m n h = eqb-true m n (not-false (eqb m n) h)
@@ -83,8 +75,8 @@ good-sizes S I O P e =
 -- a whole number of tuples, and no more than the most
 whole-tuples : (width most n : ℕ) → tuplesWrong width most n ≡ false → WholeTuples width most n (n / width)
 whole-tuples width most n h =
-    let r : n % width ≡ 0 = not-eqb (n % width) 0 (or-left _ (ltb (width * most) n) h) in
-    let f : n ≤ width * most = ltb-false (width * most) n (or-right (not (eqb (n % width) 0)) _ h) in
+    let r : n % width ≡ 0 = not-eqb (n % width) 0 (or-first _ (ltb (width * most) n) h) in
+    let f : n ≤ width * most = ltb-false (width * most) n (or-second (not (eqb (n % width) 0)) _ h) in
     let e : n ≡ width * (n / width) = sym (div-add-mod n width) ∙ rw r (omega arith) in
     record { whole = e; few = div-le-of-le-mul width f }
 
@@ -142,10 +134,10 @@ module _ (O : ℕ) (inputMarks outputTable outputMarks : List ℕ) where
       ltb-false 1 _ (rw (le-ltb (marks + k) table (omega arith), le-ltb (marks + k) marks (omega arith), index) at e)
 
 good-count : (counts : List ℕ) (p : ℕ) → countWrong counts p ≡ false → countOf counts p ≤ 2
-good-count counts p h = ltb-false 2 (countOf counts p) (or-left (ltb 2 (countOf counts p)) _ h)
+good-count counts p h = ltb-false 2 (countOf counts p) (or-first (ltb 2 (countOf counts p)) _ h)
 
 good-start : (counts : List ℕ) → countWrong counts 0 ≡ false → countOf counts 0 ≡ 0
-good-start counts h = not-eqb (countOf counts 0) 0 (or-right (ltb 2 (countOf counts 0)) _ h)
+good-start counts h = not-eqb (countOf counts 0) 0 (or-second (ltb 2 (countOf counts 0)) _ h)
 
 good-rule : (S : ℕ) (counts nodes : List ℕ) (r : Rule) → ruleWrong S counts nodes r ≡ false → GoodRule S counts nodes r
 good-rule S counts nodes r h =
@@ -172,12 +164,12 @@ module _ (S : ℕ) (counts : List ℕ) (k : ℕ) (n : Node)
   smaller-first : 1 ≤ references counts n → n .first < k
   smaller-first h =
       leb-false k (n .first)
-      (and-right (leb 1 (references counts n)) _ (or-left _ (leb 2 (references counts n) && leb k (n .second)) (p .four)) (le-leb 1 _ h))
+      (and-right (leb 1 (references counts n)) _ (or-first _ (leb 2 (references counts n) && leb k (n .second)) (p .four)) (le-leb 1 _ h))
 
   smaller-second : 2 ≤ references counts n → n .second < k
   smaller-second h =
       leb-false k (n .second)
-      (and-right (leb 2 (references counts n)) _ (or-right (leb 1 (references counts n) && leb k (n .first)) _ (p .four)) (le-leb 2 _ h))
+      (and-right (leb 2 (references counts n)) _ (or-second (leb 1 (references counts n) && leb k (n .first)) _ (p .four)) (le-leb 2 _ h))
 
   good-node-symbol : n .tag ≡ 1 → GoodNode S counts k n
   good-node-symbol t = go (ℕ-discrete (n .name) 0)
