@@ -15,6 +15,8 @@ use Rattle.answers.specs.declared.RunningAnswer.{RunningAnswer}
 use Rattle.answers.specs.declared.RunningAnswer.the-variants as running
 use Rattle.answers.specs.declared.WritingAnswer.{WritingAnswer}
 use Rattle.answers.specs.declared.WritingAnswer.the-variants as writing
+use Rattle.answers.specs.declared.numbered.Answer as code
+use Rattle.answers.specs.declared.numbered.Answer.the-variants as answer
 
 -- refusals 1 to 8
 abbrev pub contractRefusal : ContractFault → Answer
@@ -66,3 +68,13 @@ writingAnswer (writing.Row row) = refusal 17 row
 writingAnswer (writing.Number row) = refusal 18 row
 writingAnswer (writing.Room numbers) = refusal 19 numbers
 writingAnswer (writing.Written count) = written count
+
+-- the answer of any operation
+abbrev pub numbered : code.Answer → Answer
+numbered answer.Admitted = admitted
+numbered (answer.Judged result) = judged result
+numbered (answer.Tree row) = tree row
+numbered (answer.Pass count) = pass count
+numbered (answer.Ran root used) = ran root used
+numbered (answer.Written count) = written count
+numbered (answer.Refused number place) = refusal number place

@@ -1,5 +1,7 @@
 // The answers of the five operations, as enums of meaningful cases. specs/Numbers.antt gives document 01's number and
-// values for each case; promises use it.
+// values for each case; promises use it. `numbered` has the answers of all operations as one enum with these numbers.
+pub mod numbered;
+
 use tables::Procedure;
 
 // Why a contract is not admitted, with the place.

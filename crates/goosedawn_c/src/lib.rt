@@ -9,16 +9,15 @@ ghost use Rattle.model.specs.Checking.{checking};
 ghost use Rattle.model.specs.Judging.{judging};
 ghost use Rattle.model.specs.Running.{running};
 ghost use Rattle.model.specs.WritingOut.{writingOut};
-ghost use Rattle.answers.specs.Numbers.{contractRefusal, documentRefusal, admissionAnswer, judgingAnswer, checkingAnswer, runningAnswer, writingAnswer};
+ghost use Rattle.answers.specs.Numbers.{numbered};
 ghost use Rattle.goosedawn_c.specs.Replies.{reply, replyOf, Checks, Judges, Runs, Writes};
 use admission::admit;
-use answers::AdmissionAnswer;
-use answers::CheckingAnswer;
-use answers::ContractFault;
-use answers::DocumentFault;
-use answers::JudgingAnswer;
-use answers::RunningAnswer;
-use answers::WritingAnswer;
+use answers::numbered::Answer;
+use answers::numbered::of_admission;
+use answers::numbered::of_checking;
+use answers::numbered::of_judging;
+use answers::numbered::of_running;
+use answers::numbered::of_writing;
 use checking::check;
 use judging::judge;
 use running::run;
@@ -32,112 +31,28 @@ pub struct Reply {
     pub second: usize,
 }
 
-fn refused(number: usize, place: usize) -> Reply
-    ensures { λ r. ⌜ r ≡ reply 0 number place ⌝ }
-{
-    Reply {
-        answer: 0,
-        first: number,
-        second: place,
-    }
-}
-
-// An answer that is no refusal and has at most one value.
-fn answered(answer: usize, value: usize) -> Reply
-    ensures { λ r. ⌜ r ≡ reply answer value 0 ⌝ }
+fn reply_with(answer: usize, first: usize, second: usize) -> Reply
+    ensures { λ r. ⌜ r ≡ reply answer first second ⌝ }
 {
     Reply {
         answer,
-        first: value,
-        second: 0,
+        first,
+        second,
     }
 }
 
-fn contract_reply(fault: ContractFault) -> Reply
-    ensures { λ r. ⌜ r ≡ replyOf (contractRefusal fault) ⌝ }
-{
-    match fault {
-        ContractFault::Size(place) => refused(1, place),
-        ContractFault::Length(place) => refused(2, place),
-        ContractFault::InputRow(row) => refused(3, row),
-        ContractFault::Entry(index) => refused(4, index),
-        ContractFault::Count(procedure) => refused(5, procedure),
-        ContractFault::Node(node) => refused(6, node),
-        ContractFault::Rule(rule) => refused(7, rule),
-        ContractFault::Facts(total) => refused(8, total),
-    }
-}
-
-fn document_reply(fault: DocumentFault) -> Reply
-    ensures { λ r. ⌜ r ≡ replyOf (documentRefusal fault) ⌝ }
-{
-    match fault {
-        DocumentFault::Length(numbers) => refused(11, numbers),
-        DocumentFault::Number(place) => refused(12, place),
-    }
-}
-
-fn admission_reply(answer: AdmissionAnswer) -> Reply
-    ensures { λ r. ⌜ r ≡ replyOf (admissionAnswer answer) ⌝ }
+// The reply of an answer.
+fn reply_of(answer: Answer) -> Reply
+    ensures { λ r. ⌜ r ≡ replyOf (numbered answer) ⌝ }
 {
     match answer {
-        AdmissionAnswer::Admitted => answered(1, 0),
-        AdmissionAnswer::Refused(fault) => contract_reply(fault),
-    }
-}
-
-fn judging_reply(answer: JudgingAnswer) -> Reply
-    ensures { λ r. ⌜ r ≡ replyOf (judgingAnswer answer) ⌝ }
-{
-    match answer {
-        JudgingAnswer::Contract(fault) => contract_reply(fault),
-        JudgingAnswer::Buffer => refused(9, 0),
-        JudgingAnswer::Document(fault) => document_reply(fault),
-        JudgingAnswer::Outside => answered(2, 0),
-        JudgingAnswer::Sound => answered(2, 1),
-        JudgingAnswer::Breaking => answered(2, 2),
-    }
-}
-
-fn checking_reply(answer: CheckingAnswer) -> Reply
-    ensures { λ r. ⌜ r ≡ replyOf (checkingAnswer answer) ⌝ }
-{
-    match answer {
-        CheckingAnswer::Contract(fault) => contract_reply(fault),
-        CheckingAnswer::Buffer(place) => refused(9, place),
-        CheckingAnswer::Pass(count) => answered(3, count),
-        CheckingAnswer::Tree(row) => answered(4, row),
-        CheckingAnswer::Stopped(limit) => refused(10, limit),
-    }
-}
-
-fn running_reply(answer: RunningAnswer) -> Reply
-    ensures { λ r. ⌜ r ≡ replyOf (runningAnswer answer) ⌝ }
-{
-    match answer {
-        RunningAnswer::Contract(fault) => contract_reply(fault),
-        RunningAnswer::Buffer => refused(9, 0),
-        RunningAnswer::Document(fault) => document_reply(fault),
-        RunningAnswer::NoRule(procedure) => refused(13, procedure.0 as usize),
-        RunningAnswer::NoRow(rows) => refused(14, rows),
-        RunningAnswer::TooManyCalls => refused(15, 65536),
-        RunningAnswer::Ran(root, used) => Reply {
-            answer: 5,
-            first: root,
-            second: used,
-        },
-    }
-}
-
-fn writing_reply(answer: WritingAnswer) -> Reply
-    ensures { λ r. ⌜ r ≡ replyOf (writingAnswer answer) ⌝ }
-{
-    match answer {
-        WritingAnswer::Rows => refused(16, 0),
-        WritingAnswer::Row(row) => refused(17, row),
-        WritingAnswer::Number(row) => refused(18, row),
-        WritingAnswer::Room(numbers) => refused(19, numbers),
-        WritingAnswer::Written(count) => answered(6, count),
+        Answer::Refused(number, place) => reply_with(0, number, place),
+        Answer::Admitted => reply_with(1, 0, 0),
+        Answer::Judged(result) => reply_with(2, result, 0),
+        Answer::Pass(count) => reply_with(3, count, 0),
+        Answer::Tree(row) => reply_with(4, row, 0),
+        Answer::Ran(root, used) => reply_with(5, root, used),
+        Answer::Written(count) => reply_with(6, count, 0),
     }
 }
 
@@ -158,7 +73,7 @@ pub extern "C" fn goosedawn_admit(
     ensures { λ r. ⌜ r ≡ replyOf (model.admit (contract symbols «input_states» «output_states» (now (counts .entry)) (now («input_rows» .entry))
         (now («input_marks» .entry)) (now («output_table» .entry)) (now («output_marks» .entry)) (now (nodes .entry)) (now (rules .entry)))) ⌝ }
 {
-    admission_reply(admit(
+    let answer = admit(
         symbols,
         input_states,
         output_states,
@@ -169,7 +84,8 @@ pub extern "C" fn goosedawn_admit(
         output_marks,
         nodes,
         rules,
-    ))
+    );
+    reply_of(of_admission(answer))
 }
 
 // Judges a document; the kind of its tree goes into the kind buffer.
@@ -205,7 +121,7 @@ pub extern "C" fn goosedawn_judge(
         numbers,
         kind,
     );
-    judging_reply(answer)
+    reply_of(of_judging(answer))
 }
 
 // Checks a contract, listing at most so many kinds: rows and kinds of the trees listed go into the two buffers.
@@ -243,7 +159,7 @@ pub extern "C" fn goosedawn_check(
         rows,
         words,
     );
-    checking_reply(answer)
+    reply_of(of_checking(answer))
 }
 
 // Runs a contract's transformation on a document; the rows of the tree go into the row buffer.
@@ -279,7 +195,7 @@ pub extern "C" fn goosedawn_run(
         numbers,
         rows,
     );
-    running_reply(answer)
+    reply_of(of_running(answer))
 }
 
 // Writes out the tree of a row.
@@ -288,5 +204,5 @@ pub extern "C" fn goosedawn_write_out(rows: &[u16], row: usize, buffer: &mut [u1
     ensures { λ r. ⌜ Writes r (now (buffer .exit)) (writingOut (now (rows .entry)) row (now (buffer .entry))) ⌝ }
 {
     let answer = write_out(rows, row, buffer);
-    writing_reply(answer)
+    reply_of(of_writing(answer))
 }

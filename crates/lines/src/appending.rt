@@ -4,24 +4,15 @@ ghost use mathlib.Core.List.{_∷_, _++_};
 ghost use lib.ListN.{length, take};
 ghost use lib.Seq.{sets};
 ghost use Rattle.model.specs.WritingOut.{Written};
-ghost use Rattle.answers.specs.Numbers.{admissionAnswer, judgingAnswer, checkingAnswer, runningAnswer, writingAnswer};
+ghost use Rattle.answers.specs.Numbers.{numbered, writingAnswer};
 ghost use Rattle.printing.specs.Decimals.{decimal};
 ghost use Rattle.printing.specs.Appending.{placeAfter};
 ghost use Rattle.script.specs.Meaning.{spaced, answerText, writtenText};
-ghost use Rattle.lines.specs.Answers.{numbered};
-use crate::answer::Answer;
-use crate::answer::of_admission;
-use crate::answer::of_checking;
-use crate::answer::of_judging;
-use crate::answer::of_running;
-use crate::answer::of_writing;
 use crate::lists::append_behind_space;
 use crate::lists::append_numbers;
-use answers::AdmissionAnswer;
-use answers::CheckingAnswer;
-use answers::JudgingAnswer;
-use answers::RunningAnswer;
 use answers::WritingAnswer;
+use answers::numbered::Answer;
+use answers::numbered::of_writing;
 use printing::appending::append;
 use printing::appending::append_byte;
 use printing::appending::append_decimal;
@@ -59,38 +50,6 @@ pub fn append_answer(out: &mut [u8], at: usize, answer: Answer) -> usize
         Answer::Written(count) => append_one(out, at, b"written ", count),
         Answer::Refused(number, place) => append_two(out, at, b"refused ", number, place),
     }
-}
-
-pub fn append_admission(out: &mut [u8], at: usize, answer: AdmissionAnswer) -> usize
-    ensures { λ r. ⌜ r ≡ placeAfter (now (out .entry)) at (length (answerText (admissionAnswer answer))) ⌝ }
-    ensures { λ _. ⌜ now (out .exit) ≡ sets (now (out .entry)) at (answerText (admissionAnswer answer)) ⌝ }
-{
-    let numbered = of_admission(answer);
-    append_answer(out, at, numbered)
-}
-
-pub fn append_judging(out: &mut [u8], at: usize, answer: JudgingAnswer) -> usize
-    ensures { λ r. ⌜ r ≡ placeAfter (now (out .entry)) at (length (answerText (judgingAnswer answer))) ⌝ }
-    ensures { λ _. ⌜ now (out .exit) ≡ sets (now (out .entry)) at (answerText (judgingAnswer answer)) ⌝ }
-{
-    let numbered = of_judging(answer);
-    append_answer(out, at, numbered)
-}
-
-pub fn append_checking(out: &mut [u8], at: usize, answer: CheckingAnswer) -> usize
-    ensures { λ r. ⌜ r ≡ placeAfter (now (out .entry)) at (length (answerText (checkingAnswer answer))) ⌝ }
-    ensures { λ _. ⌜ now (out .exit) ≡ sets (now (out .entry)) at (answerText (checkingAnswer answer)) ⌝ }
-{
-    let numbered = of_checking(answer);
-    append_answer(out, at, numbered)
-}
-
-pub fn append_running(out: &mut [u8], at: usize, answer: RunningAnswer) -> usize
-    ensures { λ r. ⌜ r ≡ placeAfter (now (out .entry)) at (length (answerText (runningAnswer answer))) ⌝ }
-    ensures { λ _. ⌜ now (out .exit) ≡ sets (now (out .entry)) at (answerText (runningAnswer answer)) ⌝ }
-{
-    let numbered = of_running(answer);
-    append_answer(out, at, numbered)
 }
 
 // The first numbers of a list, behind a colon.

@@ -4,7 +4,7 @@ ghost use Prim.Native.Nat.{_≤_};
 ghost use lib.ListN.{length};
 ghost use Rattle.model.specs.Tables.{contract};
 ghost use Rattle.script.specs.Meaning.{untouched};
-ghost use Rattle.lines.specs.Answers.{numbered};
+ghost use Rattle.answers.specs.Numbers.{numbered};
 ghost use Rattle.playing.specs.Desks.{stretch, span, contractAt, InOrder};
 ghost use Rattle.playing.specs.Questions.{asked, Comes, Lends, writesRows, setsRows};
 use crate::buffers::fill_numbers;
@@ -14,13 +14,13 @@ use crate::desks::Sizes;
 use crate::questions::Lent;
 use crate::questions::Question;
 use admission::admit;
+use answers::numbered::Answer;
+use answers::numbered::of_admission;
+use answers::numbered::of_checking;
+use answers::numbered::of_judging;
+use answers::numbered::of_running;
 use checking::check;
 use judging::judge;
-use lines::answer::Answer;
-use lines::answer::of_admission;
-use lines::answer::of_checking;
-use lines::answer::of_judging;
-use lines::answer::of_running;
 use running::run;
 
 // Whether an answer comes with a row buffer that is written.

@@ -2,16 +2,16 @@
 ghost use mathlib.Core.Path.{_≡_};
 ghost use Prim.Native.Nat.{_≤_};
 ghost use lib.ListN.{replicate};
-ghost use Rattle.lines.specs.Answers.{numbered};
+ghost use Rattle.answers.specs.Numbers.{numbered};
 ghost use Rattle.worked_table.specs.Questions as questions;
 ghost use Rattle.worked_table.specs.Questions.{ask};
 ghost use Rattle.worked.specs.Lines.{typed};
+use answers::numbered::Answer;
+use answers::numbered::of_checking;
+use answers::numbered::of_judging;
+use answers::numbered::of_running;
 use checking::check;
 use judging::judge;
-use lines::answer::Answer;
-use lines::answer::of_checking;
-use lines::answer::of_judging;
-use lines::answer::of_running;
 use running::run;
 
 fn row_sevens() -> [u16; 1536]

@@ -8,11 +8,14 @@ use Rattle.goosedawn_c.proofs.goosedawn_admit.Tie as tie
 admit-requires : tie.Need-admit-requires
 admit-requires c κs = search needs
 
-admission-reply-requires : tie.Need-admission-reply-requires
-admission-reply-requires c κs = search needs
+of-admission-requires : tie.Need-of-admission-requires
+of-admission-requires c κs = search needs
+
+reply-of-requires : tie.Need-reply-of-requires
+reply-of-requires c κs = search needs
 
 returns : tie.Need-returns
-returns c = c .admission-reply .ensures ∙ ap replyOf (c .before .admit .ensures)
+returns c = c .reply-of .ensures ∙ ap replyOf (c .before .of-admission .ensures ∙ c .before .before .admit .ensures)
 
 pub goosedawn-admit-spec : {M : Type 1} → statement M
-goosedawn-admit-spec = tie.close (tie.spec admit-requires admission-reply-requires returns)
+goosedawn-admit-spec = tie.close (tie.spec admit-requires of-admission-requires reply-of-requires returns)

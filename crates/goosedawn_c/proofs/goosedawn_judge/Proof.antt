@@ -8,15 +8,18 @@ use Rattle.goosedawn_c.proofs.goosedawn_judge.Tie as tie
 judge-requires : tie.Need-judge-requires
 judge-requires c κs = search needs
 
-judging-reply-requires : tie.Need-judging-reply-requires
-judging-reply-requires c κs = search needs
+of-judging-requires : tie.Need-of-judging-requires
+of-judging-requires c κs = search needs
+
+reply-of-requires : tie.Need-reply-of-requires
+reply-of-requires c κs = search needs
 
 same-length : tie.Need-same-length
 same-length c = search needs
 
 returns : tie.Need-returns
-returns c = (c .judging-reply .ensures ∙ ap replyOf (c .before .before .before .judge .ensures .answers), c .before .before .before .judge .ensures .closes)
+returns c = (c .reply-of .ensures ∙ ap replyOf (c .before .of-judging .ensures ∙ c .before .before .before .before .judge .ensures .answers), c .before .before .before .before .judge .ensures .closes)
 
 pub goosedawn-judge-spec : {M : Type 1} → statement M
 goosedawn-judge-spec =
-    tie.close (tie.spec judge-requires judging-reply-requires same-length returns)
+    tie.close (tie.spec judge-requires of-judging-requires reply-of-requires same-length returns)

@@ -8,14 +8,17 @@ use Rattle.goosedawn_c.proofs.goosedawn_run.Tie as tie
 run-requires : tie.Need-run-requires
 run-requires c κs = search needs
 
-running-reply-requires : tie.Need-running-reply-requires
-running-reply-requires c κs = search needs
+of-running-requires : tie.Need-of-running-requires
+of-running-requires c κs = search needs
+
+reply-of-requires : tie.Need-reply-of-requires
+reply-of-requires c κs = search needs
 
 same-length : tie.Need-same-length
 same-length c = search needs
 
 returns : tie.Need-returns
-returns c = (c .running-reply .ensures ∙ ap replyOf (c .before .before .before .run .ensures .answered), c .before .before .before .run .ensures .left)
+returns c = (c .reply-of .ensures ∙ ap replyOf (c .before .of-running .ensures ∙ c .before .before .before .before .run .ensures .answered), c .before .before .before .before .run .ensures .left)
 
 pub goosedawn-run-spec : {M : Type 1} → statement M
-goosedawn-run-spec = tie.close (tie.spec run-requires running-reply-requires same-length returns)
+goosedawn-run-spec = tie.close (tie.spec run-requires of-running-requires reply-of-requires same-length returns)

@@ -3,8 +3,8 @@ use mathlib.Core.List.{List}
 use Prim.Native.Nat.{ℕ}
 use Rattle.printing.proofs.Runs.{appended-of}
 use Rattle.script.specs.Meaning.{answerText}
-use Rattle.lines.specs.Answers.{numbered}
-use Rattle.lines.specs.declared.answer.Answer.{Answer}
+use Rattle.answers.specs.Numbers.{numbered}
+use Rattle.answers.specs.declared.numbered.Answer.{Answer}
 use borrow.Author.Needs.{needs}
 use Rattle.lines.proofs.appending.append_answer.Statement.{statement}
 use Rattle.lines.proofs.appending.append_answer.Tie as tie

@@ -4,7 +4,7 @@ use mathlib.Core.Path.{_≡_, ap, sym, _∙_}
 use native.Mathlib.Omega.{arith}
 use lib.ListN.{length-take}
 use lib.Seq.{length-take-le}
-use Rattle.lines.specs.Answers.{numbered}
+use Rattle.answers.specs.Numbers.{numbered}
 use Rattle.playing.specs.declared.questions.Lent.{Lent}
 use Rattle.playing.specs.Questions.{lentTo}
 use Rattle.playing.proofs.QuestionLaws.{lent-most}

@@ -1,7 +1,7 @@
 -- The lent beginnings are handed on.
 use mathlib.Core.Path.{sym}
 use lib.Seq.{length-take-le}
-use Rattle.lines.specs.Answers.{numbered}
+use Rattle.answers.specs.Numbers.{numbered}
 use Rattle.playing.specs.Desks.{contractAt}
 use Rattle.playing.proofs.QuestionLaws.{lends}
 use borrow.Author.Needs.{needs}

@@ -1,6 +1,6 @@
 -- A space, the text and a line feed, one behind another.
 use Rattle.script.specs.Meaning.{answerText}
-use Rattle.lines.specs.Answers.{numbered}
+use Rattle.answers.specs.Numbers.{numbered}
 use Rattle.playing.proofs.LineLaws.{line-appended}
 use borrow.Author.Needs.{needs}
 use Rattle.playing.proofs.whole_lines.answer_line.Statement.{statement}

@@ -2,7 +2,7 @@
 use mathlib.Core.List.{[], _∷_, _++_}
 use Rattle.printing.proofs.Runs.{appended-both}
 use Rattle.script.specs.Meaning.{answerText}
-use Rattle.lines.specs.Answers.{numbered}
+use Rattle.answers.specs.Numbers.{numbered}
 use borrow.Author.Needs.{needs}
 use Rattle.worked.proofs.texts.append_line.Statement.{statement}
 use Rattle.worked.proofs.texts.append_line.Tie as tie

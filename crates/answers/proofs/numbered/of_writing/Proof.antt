@@ -1,7 +1,7 @@
 -- `of_writing` meets its contract, case by case.
 use borrow.Author.Needs.{needs}
-use Rattle.lines.proofs.answer.of_writing.Statement.{statement}
-use Rattle.lines.proofs.answer.of_writing.Tie as tie
+use Rattle.answers.proofs.numbered.of_writing.Statement.{statement}
+use Rattle.answers.proofs.numbered.of_writing.Tie as tie
 
 enum-told : tie.Need-enum-told
 enum-told c = search needs

@@ -1,14 +1,13 @@
 // An answer of any of the five operations, in document 01's numbers.
 ghost use mathlib.Core.Path.{_≡_};
-ghost use Rattle.answers.specs.Numbers.{contractRefusal, documentRefusal, admissionAnswer, judgingAnswer, checkingAnswer, runningAnswer, writingAnswer};
-ghost use Rattle.lines.specs.Answers.{numbered};
-use answers::AdmissionAnswer;
-use answers::CheckingAnswer;
-use answers::ContractFault;
-use answers::DocumentFault;
-use answers::JudgingAnswer;
-use answers::RunningAnswer;
-use answers::WritingAnswer;
+ghost use Rattle.answers.specs.Numbers.{numbered, contractRefusal, documentRefusal, admissionAnswer, judgingAnswer, checkingAnswer, runningAnswer, writingAnswer};
+use crate::AdmissionAnswer;
+use crate::CheckingAnswer;
+use crate::ContractFault;
+use crate::DocumentFault;
+use crate::JudgingAnswer;
+use crate::RunningAnswer;
+use crate::WritingAnswer;
 
 // The cases of the model's answer, with their values.
 pub enum Answer {

@@ -1,7 +1,7 @@
 -- `of_document` meets its contract, case by case.
 use borrow.Author.Needs.{needs}
-use Rattle.lines.proofs.answer.of_document.Statement.{statement}
-use Rattle.lines.proofs.answer.of_document.Tie as tie
+use Rattle.answers.proofs.numbered.of_document.Statement.{statement}
+use Rattle.answers.proofs.numbered.of_document.Tie as tie
 
 enum-known-fault : tie.Need-enum-known-fault
 enum-known-fault c = search needs

@@ -1,7 +1,7 @@
 -- `of_running` meets its contract, case by case.
 use borrow.Author.Needs.{needs}
-use Rattle.lines.proofs.answer.of_running.Statement.{statement}
-use Rattle.lines.proofs.answer.of_running.Tie as tie
+use Rattle.answers.proofs.numbered.of_running.Statement.{statement}
+use Rattle.answers.proofs.numbered.of_running.Tie as tie
 
 enum-known-answer : tie.Need-enum-known-answer
 enum-known-answer c = search needs

@@ -1,7 +1,7 @@
 -- `of_contract` meets its contract, case by case.
 use borrow.Author.Needs.{needs}
-use Rattle.lines.proofs.answer.of_contract.Statement.{statement}
-use Rattle.lines.proofs.answer.of_contract.Tie as tie
+use Rattle.answers.proofs.numbered.of_contract.Statement.{statement}
+use Rattle.answers.proofs.numbered.of_contract.Tie as tie
 
 enum-known-fault : tie.Need-enum-known-fault
 enum-known-fault c = search needs

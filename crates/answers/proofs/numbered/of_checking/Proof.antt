@@ -1,7 +1,7 @@
 -- `of_checking` meets its contract, case by case.
 use borrow.Author.Needs.{needs}
-use Rattle.lines.proofs.answer.of_checking.Statement.{statement}
-use Rattle.lines.proofs.answer.of_checking.Tie as tie
+use Rattle.answers.proofs.numbered.of_checking.Statement.{statement}
+use Rattle.answers.proofs.numbered.of_checking.Tie as tie
 
 enum-known-answer : tie.Need-enum-known-answer
 enum-known-answer c = search needs
