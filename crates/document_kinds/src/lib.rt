@@ -13,8 +13,10 @@ ghost use Rattle.document_kinds.specs.Stored.{kindAt, putKind, IsKindOf,
 use kinds::empty_kind;
 use kinds::next_kind;
 use lanes::Layout;
+use reading::few_ends;
+use reading::fill_ends;
+use reading::most_ends;
 use reading::right_child;
-use reading::tree_ends;
 use tables::Symbol;
 
 // Room for a kind at each place of a document of at most sixteen numbers.
@@ -72,12 +74,12 @@ fn kind_of_place(
     nodes: &[u16],
     rules: &[u16],
     numbers: &[u16],
-    ends: &[u16; 1023],
+    ends: &[u16],
     kinds: &[u64],
     empty: [u64; 6],
     i: usize,
 ) -> [u64; 6]
-    requires { ⌜ Ready (layoutOf layout) (now offsets) (now lists) (now counts) (now rows) (now table) (now nodes) (now rules) × Readable (now numbers) × (length (now numbers) ≤ mostNumbers) × Symbols (now numbers) × (i < length (now numbers)) × EndsFrom 0 (now numbers) (now ends) × IsEmptyKind (layoutOf layout) (now offsets) (now lists) (now counts) (now rows) (now table) (now nodes) (now rules) empty × StoredFrom (layoutOf layout) (now offsets) (now lists) (now counts) (now rows) (now table) (now nodes) (now rules) (i + 1) (now numbers) (now kinds) ⌝ }
+    requires { ⌜ Ready (layoutOf layout) (now offsets) (now lists) (now counts) (now rows) (now table) (now nodes) (now rules) × Readable (now numbers) × (length (now numbers) ≤ mostNumbers) × Symbols (now numbers) × (i < length (now numbers)) × EndsFrom 0 (now numbers) (now ends) × (length (now numbers) ≤ length (now ends)) × IsEmptyKind (layoutOf layout) (now offsets) (now lists) (now counts) (now rows) (now table) (now nodes) (now rules) empty × StoredFrom (layoutOf layout) (now offsets) (now lists) (now counts) (now rows) (now table) (now nodes) (now rules) (i + 1) (now numbers) (now kinds) ⌝ }
     ensures { λ r. ⌜ IsKindOf (layoutOf layout) (now (offsets .entry)) (now (lists .entry)) (now (counts .entry)) (now (rows .entry)) (now (table .entry)) (now (nodes .entry)) (now (rules .entry)) (treeFrom (now (numbers .entry)) i) r ⌝ }
 {
     let symbol = Symbol(numbers[i]);
@@ -101,7 +103,7 @@ fn kind_of_place(
     )
 }
 
-// The kind of a document's tree, with room for the kinds of its places.
+// The kind of a document's tree, with room for where the trees of its places end and for their kinds.
 fn kind_within(
     layout: Layout,
     offsets: &[u16; 16],
@@ -112,12 +114,13 @@ fn kind_within(
     nodes: &[u16],
     rules: &[u16],
     numbers: &[u16],
+    ends: &mut [u16],
     kinds: &mut [u64],
 ) -> [u64; 6]
-    requires { ⌜ Ready (layoutOf layout) (now offsets) (now lists) (now counts) (now rows) (now table) (now nodes) (now rules) × Readable (now numbers) × (1 ≤ length (now numbers)) × (length (now numbers) ≤ mostNumbers) × Symbols (now numbers) × (6 * length (now numbers) ≤ length (now kinds)) ⌝ }
+    requires { ⌜ Ready (layoutOf layout) (now offsets) (now lists) (now counts) (now rows) (now table) (now nodes) (now rules) × Readable (now numbers) × (1 ≤ length (now numbers)) × (length (now numbers) ≤ mostNumbers) × Symbols (now numbers) × (length (now numbers) ≤ length (now ends)) × (6 * length (now numbers) ≤ length (now kinds)) ⌝ }
     ensures { λ r. ⌜ IsKindOf (layoutOf layout) (now (offsets .entry)) (now (lists .entry)) (now (counts .entry)) (now (rows .entry)) (now (table .entry)) (now (nodes .entry)) (now (rules .entry)) (treeFrom (now (numbers .entry)) 0) r ⌝ }
 {
-    let ends = tree_ends(numbers);
+    fill_ends(numbers, ends);
     let empty = empty_kind(layout, offsets, lists, counts, rows, table, nodes, rules);
     let mut i = numbers.len();
     while 0 < i {
@@ -132,7 +135,7 @@ fn kind_within(
             nodes,
             rules,
             numbers,
-            &ends,
+            ends,
             kinds,
             empty,
             i,
@@ -158,6 +161,7 @@ pub fn document_kind(
     ensures { λ r. ⌜ IsKindOf (layoutOf layout) (now (offsets .entry)) (now (lists .entry)) (now (counts .entry)) (now (rows .entry)) (now (table .entry)) (now (nodes .entry)) (now (rules .entry)) (treeFrom (now (numbers .entry)) 0) r ⌝ }
 {
     if numbers.len() <= 16 {
+        let mut ends = few_ends();
         let mut kinds = few_kinds();
         return kind_within(
             layout,
@@ -169,9 +173,11 @@ pub fn document_kind(
             nodes,
             rules,
             numbers,
+            &mut ends,
             &mut kinds,
         );
     }
+    let mut ends = most_ends();
     let mut kinds = most_kinds();
     kind_within(
         layout,
@@ -183,6 +189,7 @@ pub fn document_kind(
         nodes,
         rules,
         numbers,
+        &mut ends,
         &mut kinds,
     )
 }

@@ -5,7 +5,8 @@ use mathlib.Core.List.{List}
 use Prim.Native.Nat.{ℕ, _+_, _*_, _<_, _≤_}
 use native.Mathlib.Nat.{zero-add}
 use native.Mathlib.Omega.{arith}
-use lib.ListN.{length, getD}
+use lib.ListN.{length, getD, take}
+use lib.Seq.{getD-take, length-take-le}
 use Rattle.plans.specs.Plans.{overlaid, Sides, Laid}
 use Rattle.plans.proofs.Overlays.{length-overlaid, overlaid-in, overlaid-below}
 
@@ -20,9 +21,9 @@ written : (l t new : List ℕ) (at : ℕ) → t ≡ overlaid l at new → length
 written l t new at e n h i b = ap (λ (x : List ℕ). getD x (at + i) 0) e ∙ overlaid-in l at new (omega arith) i b
 
 module _ (counts nodes rules numbers ends sides : List ℕ)
-    (few-counts : length counts ≤ 16) (sides-size : length sides ≡ 256) (few-nodes : length nodes ≤ 1280) (few-numbers : length numbers ≤ 1023) (ends-size : length ends ≡ 1023)
+    (few-counts : length counts ≤ 16) (sides-size : length sides ≡ 256) (few-nodes : length nodes ≤ 1280) (few-numbers : length numbers ≤ 1023) (long : length numbers ≤ length ends)
     (t₀ t₁ t₂ t₃ t₄ t₅ : List ℕ) (n : length t₀ ≡ 3598)
-    (e₁ : t₁ ≡ overlaid t₀ 0 counts) (e₂ : t₂ ≡ overlaid t₁ 16 sides) (e₃ : t₃ ≡ overlaid t₂ 272 nodes) (e₄ : t₄ ≡ overlaid t₃ 1552 numbers) (e₅ : t₅ ≡ overlaid t₄ 2575 ends) where
+    (e₁ : t₁ ≡ overlaid t₀ 0 counts) (e₂ : t₂ ≡ overlaid t₁ 16 sides) (e₃ : t₃ ≡ overlaid t₂ 272 nodes) (e₄ : t₄ ≡ overlaid t₃ 1552 numbers) (e₅ : t₅ ≡ overlaid t₄ 2575 (take (length numbers) ends)) where
   n₁ : length t₁ ≡ 3598
   n₁ = size-written t₀ t₁ counts 0 e₁ n (omega arith)
 
@@ -35,8 +36,11 @@ module _ (counts nodes rules numbers ends sides : List ℕ)
   n₄ : length t₄ ≡ 3598
   n₄ = size-written t₃ t₄ numbers 1552 e₄ n₃ (omega arith)
 
+  ends-taken : length (take (length numbers) ends) ≡ length numbers
+  ends-taken = length-take-le (length numbers) ends long
+
   below-ends : (i : ℕ) → i < 2575 → getD t₅ i 0 ≡ getD t₄ i 0
-  below-ends i h = kept t₄ t₅ ends 2575 e₅ n₄ (omega arith) i h
+  below-ends i h = kept t₄ t₅ (take (length numbers) ends) 2575 e₅ n₄ (omega (arith, ends-taken)) i h
 
   below-numbers : (i : ℕ) → i < 1552 → getD t₅ i 0 ≡ getD t₃ i 0
   below-numbers i h = below-ends i (omega arith) ∙ kept t₃ t₄ numbers 1552 e₄ n₃ (omega arith) i h
@@ -65,5 +69,7 @@ module _ (counts nodes rules numbers ends sides : List ℕ)
               node-number (272 + 5 * k + 4) (5 * k + 4) (omega arith) (omega arith),
             );
         symbol = λ i h. below-ends (1552 + i) (omega arith) ∙ written t₃ t₄ numbers 1552 e₄ n₃ (omega arith) i h;
-        end = λ i h. written t₄ t₅ ends 2575 e₅ n₄ (omega arith) i (omega arith);
+        end = λ i h.
+            written t₄ t₅ (take (length numbers) ends) 2575 e₅ n₄ (omega (arith, ends-taken)) i (omega (arith, ends-taken))
+            ∙ getD-take (length numbers) ends i 0 h;
       }

@@ -114,10 +114,10 @@ pub fn plan(
     nodes: &[u16],
     rules: &[u16],
     numbers: &[u16],
-    ends: &[u16; 1023],
+    ends: &[u16],
 ) -> [u16; 3598]
     requires { ⌜ SmallRules (now rules) ⌝ }
-    requires { ⌜ (length (now counts) ≤ 16) × (length (now nodes) ≤ 1280) × (length (now numbers) ≤ 1023) ⌝ }
+    requires { ⌜ (length (now counts) ≤ 16) × (length (now nodes) ≤ 1280) × (length (now numbers) ≤ 1023) × (length (now numbers) ≤ length (now ends)) ⌝ }
     ensures { λ r. ⌜ Laid (now (counts .entry)) (now (nodes .entry)) (now (rules .entry)) (now (numbers .entry)) (now (ends .entry)) r ⌝ }
 {
     let mut table = blank();
@@ -126,6 +126,7 @@ pub fn plan(
     copy_in(&mut table, 16, &first_sides);
     copy_in(&mut table, 272, nodes);
     copy_in(&mut table, 1552, numbers);
-    copy_in(&mut table, 2575, ends);
+    let places = numbers.len();
+    copy_in(&mut table, 2575, &ends[..places]);
     table
 }

@@ -1,11 +1,11 @@
 // Reading documents: the tree that a stretch of numbers begins with, the refusals of a document, and where the tree of each
 // place ends.
 //
-// Judging and running start with `document`. They find the children of place i by `tree_ends`: the left child starts at
-// place i + 1, the right child where the left one ends.
+// Judging and running start with `document`. They find the children of place i by what `fill_ends` fills: the left child
+// starts at place i + 1, the right child where the left one ends.
 ghost use mathlib.Core.Path.{_≡_};
 ghost use Prim.Native.Nat.{_+_, _-_, _^_, _≤_, _<_};
-ghost use lib.ListN.{length, getD};
+ghost use lib.ListN.{length, getD, replicate};
 ghost use Rattle.model.specs.Documents.{leading, document, mostNumbers};
 ghost use Rattle.model.proofs.Laws.Documents.{dueAfter, Readable, endFrom};
 ghost use Rattle.reading.specs.Answers.{leadingOf, documentVerdict};
@@ -85,18 +85,32 @@ pub fn document(symbols: usize, numbers: &[u16]) -> DocumentAnswer
     }
 }
 
+// Room for where the trees of a document of at most sixteen numbers end.
+pub fn few_ends() -> [u16; 16]
+    ensures { λ r. ⌜ r ≡ replicate 16 0 ⌝ }
+{
+    [0u16; 16]
+}
+
+// Room for where the trees of every document end.
+pub fn most_ends() -> [u16; 1023]
+    ensures { λ r. ⌜ r ≡ replicate 1023 0 ⌝ }
+{
+    [0u16; 1023]
+}
+
 // Where the right child of place i starts: where the left child ends, which starts at the next place.
-pub fn right_child(ends: &[u16; 1023], i: usize) -> usize
-    requires { ⌜ i + 1 < mostNumbers ⌝ }
+pub fn right_child(ends: &[u16], i: usize) -> usize
+    requires { ⌜ i + 1 < length (now ends) ⌝ }
     ensures { λ r. ⌜ r ≡ getD (now (ends .entry)) (i + 1) 0 ⌝ }
 {
     wide(ends[i + 1])
 }
 
 // Where the tree of place i ends, from where those of later places do.
-fn end_at(numbers: &[u16], i: usize, ends: &[u16; 1023]) -> u16
+fn end_at(numbers: &[u16], i: usize, ends: &[u16]) -> u16
     requires { ⌜ Readable (now numbers) ⌝ }
-    requires { ⌜ (i < length (now numbers)) × (length (now numbers) ≤ mostNumbers) ⌝ }
+    requires { ⌜ (i < length (now numbers)) × (length (now numbers) ≤ mostNumbers) × (length (now numbers) ≤ length (now ends)) ⌝ }
     requires { ⌜ EndsFrom (i + 1) (now numbers) (now ends) ⌝ }
     ensures { λ r. ⌜ r ≡ endFrom (now (numbers .entry)) i ⌝ }
 {
@@ -107,18 +121,16 @@ fn end_at(numbers: &[u16], i: usize, ends: &[u16; 1023]) -> u16
     ends[right]
 }
 
-// Where the tree of each place of a document ends: entry i is the place after the tree that starts at place i.
-pub fn tree_ends(numbers: &[u16]) -> [u16; 1023]
+// Fills in where the tree of each place of a document ends: entry i is the place after the tree that starts at place i.
+pub fn fill_ends(numbers: &[u16], ends: &mut [u16])
     requires { ⌜ Readable (now numbers) ⌝ }
-    requires { ⌜ length (now numbers) ≤ mostNumbers ⌝ }
-    ensures { λ r. ⌜ EndsFrom 0 (now (numbers .entry)) r ⌝ }
+    requires { ⌜ (length (now numbers) ≤ mostNumbers) × (length (now numbers) ≤ length (now ends)) ⌝ }
+    ensures { λ _. ⌜ EndsFrom 0 (now (numbers .entry)) (now (ends .exit)) ⌝ }
 {
-    let mut ends = [0u16; 1023];
     let mut i = numbers.len();
     while 0 < i {
         i -= 1;
-        let end = end_at(numbers, i, &ends);
+        let end = end_at(numbers, i, ends);
         ends[i] = end;
     }
-    ends
 }

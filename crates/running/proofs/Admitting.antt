@@ -25,8 +25,7 @@ use Rattle.model.proofs.Laws.Answers.{given-stopped}
 use Rattle.model.proofs.Laws.Admitted.{established, admit-fine}
 use Rattle.admission.proofs.Answered.{refused-as}
 use Rattle.reading.specs.Answers.{faultVerdict, fault-given}
-use Rattle.reading.specs.Ends.{EndsFrom}
-use Rattle.running.specs.Places.{Children}
+use Rattle.running.specs.Places.{ReadDocument}
 use Rattle.running.specs.Contracts.{Admitted, EndsWith, afterAdmission}
 
 -- every number of a list is below S
@@ -50,19 +49,16 @@ each-number S h empty o = (h, tt)
 each-number S h (node s l r) o = (o .1, each-append S (preorder l) (preorder r) (each-number S h l (o .2)) (each-number S h r (o .3)))
 
 module _ (S : ℕ) (numbers : List ℕ) (known : Document S numbers) where
-  pub number-there : 1 ≤ length numbers
-  number-there = rw (known .numbers) at (some-number (documentTree numbers))
-
-  pub children : (table : List ℕ) → 1 ≤ S → S ≤ 16 → EndsFrom 0 numbers table → Children numbers table
-  children table low high ends =
+  pub read-document : 1 ≤ S → S ≤ 16 → ReadDocument numbers
+  read-document low high =
       record {
+        some = rw (known .numbers) at (some-number (documentTree numbers));
         few = known .few;
         symbol = λ place h.
             let each : Each S numbers = rw (known .numbers) at (each-number S low (documentTree numbers) (known .over)) in
             let small = each-at S numbers place each h in
             omega arith;
         readable = known .readable;
-        end = ends;
       }
 
 -- a buffer that passes is small

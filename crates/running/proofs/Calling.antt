@@ -34,7 +34,7 @@ root-at {numbers} {ends} children place h = go (getD numbers place 0) refl
   where
     go : (s : ℕ) → getD numbers place 0 ≡ s → rootSymbol (treeFrom numbers place) ≡ getD numbers place 0
     go zero e = ap rootSymbol (leaf-place numbers place h e) ∙ sym e
-    go (suc s) e = ap rootSymbol (inner-place numbers (children .readable) place h (omega arith) .tree)
+    go (suc s) e = ap rootSymbol (inner-place numbers (children .read .readable) place h (omega arith) .tree)
 
 -- what is read from a plan
 module _ {counts nodes rules numbers ends plan : List ℕ} (laid : Laid counts nodes rules numbers ends plan) where
@@ -74,7 +74,7 @@ module _ {plan : List ℕ} {place : ℕ} {n : Node} (asked : ApplicableIn plan p
 
   module _ (other : n .tag ≡ 1 → ⊥) where
     abbrev inner : InnerPlace numbers place (place + 1)
-    inner = inner-place numbers (asked .known .text .readable) place (asked .able .inside) (asked .able .call other .inner)
+    inner = inner-place numbers (asked .known .text .read .readable) place (asked .able .inside) (asked .able .call other .inner)
 
     right-end : getD ends (place + 1) 0 ≡ endFrom numbers (place + 1)
     right-end = asked .known .text .end (place + 1) (omega arith) (inner .left)
@@ -130,7 +130,7 @@ module _ {plan : List ℕ} {place p : ℕ} (asked : CallableIn plan place p) (s 
   symbol-there = es ∙ caller .laid .symbol place (asked .inside)
 
   pub symbol-small : s < 16
-  symbol-small = omega (arith, symbol-there, caller .text .symbol place (asked .inside))
+  symbol-small = omega (arith, symbol-there, caller .text .read .symbol place (asked .inside))
 
   module _ (side : ℕ) (found : side ≡ getD plan (16 + (16 * p + s)) 0) where
     abbrev rule : ℕ

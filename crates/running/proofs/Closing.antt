@@ -13,7 +13,8 @@ use Rattle.model.specs.Documents.{documentTree}
 use Rattle.model.specs.Running.{Step, run, closing}
 use Rattle.answers.specs.declared.RunningAnswer.{RunningAnswer}
 use Rattle.answers.specs.Numbers.{runningAnswer}
-use Rattle.plans.specs.Plans.{SmallRules}
+use Rattle.plans.specs.Plans.{SmallRules, Laid}
+use Rattle.reading.specs.Ends.{EndsFrom}
 use Rattle.model.proofs.Laws.Documents.{document-tree}
 use Rattle.running.specs.declared.Outcome.{Outcome}
 use Rattle.running.specs.declared.Outcome.the-variants.{Made, NoRule, NoRow, TooManyCalls}
@@ -23,7 +24,8 @@ use Rattle.running.specs.declared.End.the-variants.{Root, NoRule as NoRu
 use Rattle.running.specs.declared.Ended.{Ended}
 use Rattle.running.specs.Work.{stepOf, endedOf, numbersKept, endAnswer}
 use Rattle.running.proofs.End.{the-type}
-use Rattle.running.specs.Contracts.{Admitted, Calls, Closes, transformationOf}
+use Rattle.running.specs.Places.{ReadDocument}
+use Rattle.running.specs.Contracts.{Admitted, CallableIn, Calls, Closes, transformationOf}
 
 module _ (n free : ℕ) (before : Tally) where
   closed-answer : (x : Outcome) (o : List ℕ) → closing n (stepOf free x o) .answer ≡ endAnswer free (endedOf before x .end) (endedOf before x .tally)
@@ -85,4 +87,15 @@ small-rules admitted =
     record {
       procedure = λ r h. let good = admitted .rule r h in omega (arith, good .procedure, admitted .procedures .≤most);
       symbol = λ r h. let good = admitted .rule r h in omega (arith, good .symbol, admitted .symbolsFew);
+    }
+
+-- procedure 0 may be called on the whole document
+abbrev pub callable : {counts nodes rules numbers ends plan : List ℕ} → Admitted counts nodes rules → ReadDocument numbers → EndsFrom 0 numbers ends
+    → Laid counts nodes rules numbers ends plan
+    → CallableIn plan 0 0
+callable {counts = counts} {nodes = nodes} {rules = rules} {numbers = numbers} {ends = ends} tables read end laid =
+    record {
+      known = record { counts = counts; nodes = nodes; rules = rules; numbers = numbers; ends = ends; tables = tables; text = record { read = read; end = end }; laid = laid };
+      inside = read .some;
+      named = omega (arith, tables .procedures .least≤);
     }

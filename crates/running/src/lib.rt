@@ -15,7 +15,7 @@ ghost use Rattle.model.specs.Running.{addRow, running};
 ghost use Rattle.model.proofs.Laws.Established.{Between};
 ghost use Rattle.tables.specs.Tuples.{nodeOf};
 ghost use Rattle.running.specs.Work.{workOf, stepOf, endedOf, parameterRow, planOperands, planChild, numbersKept, endAnswer};
-ghost use Rattle.running.specs.Places.{Children};
+ghost use Rattle.running.specs.Places.{ReadDocument};
 ghost use Rattle.running.specs.Contracts.{transformationOf, EndsWith, afterAdmission, Admitted, Closes, EvaluableIn, ApplicableIn, CallableIn, EvaluatesIn, AppliesIn, CallsIn, StartsIn};
 use admission::admit;
 use answers::AdmissionAnswer;
@@ -28,7 +28,9 @@ use plans::side_of;
 use plans::symbol_of;
 use reading::DocumentAnswer;
 use reading::document;
-use reading::tree_ends;
+use reading::few_ends;
+use reading::fill_ends;
+use reading::most_ends;
 use tables::Node;
 use tables::Procedure;
 use tables::Symbol;
@@ -315,26 +317,44 @@ fn answer_of(end: End, tally: Tally, free: usize) -> RunningAnswer
     }
 }
 
-// Runs procedure 0 on a document, of which it is known where the tree of each place ends.
-fn run_document(
+// Runs procedure 0 on a document, with room for where the trees of its places end.
+fn run_with(
     counts: &[u16],
     nodes: &[u16],
     rules: &[u16],
     numbers: &[u16],
-    ends: &[u16; 1023],
+    ends: &mut [u16],
     rows: &mut [u16],
 ) -> RunningAnswer
-    requires { ⌜ Admitted (now counts) (now nodes) (now rules) ⌝ }
-    requires { ⌜ Children (now numbers) (now ends) ⌝ }
-    requires { ⌜ (1 ≤ length (now numbers)) × (length (now rows) ≤ 12288) ⌝ }
+    requires { ⌜ Admitted (now counts) (now nodes) (now rules) × ReadDocument (now numbers) × (length (now numbers) ≤ length (now ends)) × (length (now rows) ≤ 12288) ⌝ }
     ensures { λ r. ⌜ Closes (now (counts .entry)) (now (nodes .entry)) (now (rules .entry)) (now (numbers .entry)) (now (rows .entry)) r (now (rows .exit)) ⌝ }
 {
+    fill_ends(numbers, ends);
     let table = plan(counts, nodes, rules, numbers, ends);
     let work = start_anew(&table, rows);
     let end = work.end;
     let tally = work.tally;
     clear_from(rows, numbers_kept(end, tally));
     answer_of(end, tally, rows.len() / 3)
+}
+
+// Runs procedure 0 on a document.
+fn run_document(
+    counts: &[u16],
+    nodes: &[u16],
+    rules: &[u16],
+    numbers: &[u16],
+    rows: &mut [u16],
+) -> RunningAnswer
+    requires { ⌜ Admitted (now counts) (now nodes) (now rules) × ReadDocument (now numbers) × (length (now rows) ≤ 12288) ⌝ }
+    ensures { λ r. ⌜ Closes (now (counts .entry)) (now (nodes .entry)) (now (rules .entry)) (now (numbers .entry)) (now (rows .entry)) r (now (rows .exit)) ⌝ }
+{
+    if numbers.len() <= 16 {
+        let mut ends = few_ends();
+        return run_with(counts, nodes, rules, numbers, &mut ends, rows);
+    }
+    let mut ends = most_ends();
+    run_with(counts, nodes, rules, numbers, &mut ends, rows)
 }
 
 // Runs an admitted transformation: the buffer is tested, then the document, and both are left as they are where they are
@@ -358,8 +378,7 @@ fn run_admitted(
     if let DocumentAnswer::Refused(fault) = answer {
         return RunningAnswer::Document(fault);
     }
-    let ends = tree_ends(numbers);
-    run_document(counts, nodes, rules, numbers, &ends, rows)
+    run_document(counts, nodes, rules, numbers, rows)
 }
 
 // Runs a contract's transformation on a document: the answer, with the rows in the buffer.

@@ -5,7 +5,7 @@
 // recursion on rows whose numbers fall.
 ghost use mathlib.Core.Path.{_≡_};
 ghost use Prim.Native.Nat.{ℕ, _+_, _≤_, _<_, _^_};
-ghost use lib.ListN.{length, getD};
+ghost use lib.ListN.{length, getD, replicate};
 ghost use lib.Seq.{sets};
 ghost use Rattle.foundation.specs.Search.{first};
 ghost use Rattle.model.specs.Rows.{rowCount};
@@ -52,10 +52,24 @@ fn first_wrong_row(rows: &[u16]) -> usize
     count
 }
 
+// Room for the sizes of the trees of 64 rows.
+fn few_sizes() -> [usize; 64]
+    ensures { λ r. ⌜ r ≡ replicate 64 0 ⌝ }
+{
+    [0usize; 64]
+}
+
+// Room for the sizes of the trees of as many rows as there may be.
+fn most_sizes() -> [usize; 4096]
+    ensures { λ r. ⌜ r ≡ replicate 4096 0 ⌝ }
+{
+    [0usize; 4096]
+}
+
 // How many numbers the tree of row k has, or `most` where it has more, from those of the rows below it.
-fn row_size(rows: &[u16], k: usize, most: usize, sizes: &[usize; 4096]) -> usize
+fn row_size(rows: &[u16], k: usize, most: usize, sizes: &[usize]) -> usize
     requires { ⌜ NoneWrong (now rows) ⌝ }
-    requires { ⌜ (k < rowCount (now rows)) × (k < 4096) × (1 ≤ most) × (most < 2 ^ 63) ⌝ }
+    requires { ⌜ (k < rowCount (now rows)) × (k ≤ length (now sizes)) × (1 ≤ most) × (most < 2 ^ 63) ⌝ }
     requires { ⌜ ((j : ℕ) → j < k → getD (now sizes) j 0 ≡ sizeWithin most (now rows) j) ⌝ }
     ensures { λ r. ⌜ r ≡ sizeWithin most (now (rows .entry)) k ⌝ }
 {
@@ -72,20 +86,33 @@ fn row_size(rows: &[u16], k: usize, most: usize, sizes: &[usize; 4096]) -> usize
     most
 }
 
-// The same for any row, counted from row 0 on.
+// The same for any row, counted from row 0 on, with room for the sizes up to its own.
+fn size_with(rows: &[u16], row: usize, most: usize, sizes: &mut [usize]) -> usize
+    requires { ⌜ NoneWrong (now rows) ⌝ }
+    requires { ⌜ (row < rowCount (now rows)) × (row < length (now sizes)) × (1 ≤ most) × (most < 2 ^ 63) ⌝ }
+    ensures { λ r. ⌜ r ≡ sizeWithin most (now (rows .entry)) row ⌝ }
+{
+    let mut k = 0;
+    while k <= row {
+        let size = row_size(rows, k, most, sizes);
+        sizes[k] = size;
+        k += 1;
+    }
+    sizes[row]
+}
+
+// The same, with room of its own.
 fn tree_size(rows: &[u16], row: usize, most: usize) -> usize
     requires { ⌜ NoneWrong (now rows) ⌝ }
     requires { ⌜ (row < rowCount (now rows)) × (row < 4096) × (1 ≤ most) × (most < 2 ^ 63) ⌝ }
     ensures { λ r. ⌜ r ≡ sizeWithin most (now (rows .entry)) row ⌝ }
 {
-    let mut sizes = [0usize; 4096];
-    let mut k = 0;
-    while k <= row {
-        let size = row_size(rows, k, most, &sizes);
-        sizes[k] = size;
-        k += 1;
+    if row < 64 {
+        let mut sizes = few_sizes();
+        return size_with(rows, row, most, &mut sizes);
     }
-    sizes[row]
+    let mut sizes = most_sizes();
+    size_with(rows, row, most, &mut sizes)
 }
 
 // Writes the tree of row k from the place `at` on, and returns the place after it.

@@ -9,41 +9,41 @@ use Rattle.document_kinds.proofs.kind_within.Statement.{statement}
 use Rattle.document_kinds.proofs.kind_within.Tie as tie
 
 abbrev Inv-loop : tie.InvT-loop
-Inv-loop layout offsets lists counts rows table nodes rules numbers kinds₀ ends empty i₀ kinds i = (i ≤ length numbers) × StoredFrom (layoutOf layout) offsets lists counts rows table nodes rules i numbers kinds × (length kinds ≡ length kinds₀)
+Inv-loop layout offsets lists counts rows table nodes rules numbers ends kinds₀ empty i₀ kinds i = (i ≤ length numbers) × StoredFrom (layoutOf layout) offsets lists counts rows table nodes rules i numbers kinds × (length kinds ≡ length kinds₀)
 
 abbrev μ-loop : tie.MeasureT-loop
-μ-loop layout offsets lists counts rows table nodes rules numbers kinds₀ ends empty i₀ kinds i = i
+μ-loop layout offsets lists counts rows table nodes rules numbers ends kinds₀ empty i₀ kinds i = i
 
-tree-ends-requires : tie.Need-tree-ends-requires Inv-loop μ-loop
-tree-ends-requires c κs =
-    let pre = c .before .before .before .before .before .before .before .before .pre in
-    (pre .1, pre .3)
+fill-ends-requires : tie.Need-fill-ends-requires Inv-loop μ-loop
+fill-ends-requires c κs =
+    let pre = c .before .before .before .before .before .before .before .before .before .before .pre in
+    (pre .1, (pre .3, pre .5))
 
 empty-kind-requires : tie.Need-empty-kind-requires Inv-loop μ-loop
-empty-kind-requires c κs = c .before .before .before .before .before .before .before .before .before .pre .0
+empty-kind-requires c κs = c .before .before .before .before .before .before .before .before .before .before .before .before .before .pre .0
 
 loop-holds : tie.Need-loop-holds Inv-loop μ-loop
-loop-holds c = (omega arith, stored-none _ _ _ _ _ _ _ _ _ _ (c .before .before .before .before .before .before .before .before .before .before .pre .5), refl)
+loop-holds c = (omega arith, stored-none _ _ _ _ _ _ _ _ _ _ (c .before .before .before .before .before .before .before .before .before .before .before .before .before .before .pre .6), refl)
 
 sub-i : tie.Need-sub-i Inv-loop μ-loop
 sub-i c = omega arith
 
 kind-of-place-requires : tie.Need-kind-of-place-requires Inv-loop μ-loop
 kind-of-place-requires c κs =
-    let pre = c .before .before .before .before .before .before .before .before .before .before .before .before .before .before .pre in
+    let pre = c .before .before .before .before .before .before .before .before .before .before .before .before .before .before .before .before .before .before .pre in
     let loop = c .before .before .before .loop in
     let e : loop .i - 1 + 1 ≡ loop .i = omega arith in
-    (pre .0, pre .1, pre .3, pre .4, omega arith, c .before .before .before .before .before .tree-ends .ensures, c .before .before .before .before .empty-kind .ensures, rw e (loop .inv .1))
+    (pre .0, pre .1, pre .3, pre .4, omega arith, c .before .before .before .before .before .before .before .fill-ends .ensures, omega (arith, pre .5, c .before .before .before .before .before .before .before .fill-ends .kept .1 .0), c .before .before .before .before .empty-kind .ensures, rw e (loop .inv .1))
 
 put-kind-requires : tie.Need-put-kind-requires Inv-loop μ-loop
-put-kind-requires c κs = omega (arith, c .before .before .before .before .before .before .before .before .before .before .before .before .before .before .before .before .before .pre .5, c .before .before .before .before .before .before .loop .inv .2)
+put-kind-requires c κs = omega (arith, c .before .before .before .before .before .before .before .before .before .before .before .before .before .before .before .before .before .before .before .before .before .pre .6, c .before .before .before .before .before .before .loop .inv .2)
 
 loop-less : tie.Need-loop-less Inv-loop μ-loop
 loop-less c = omega arith
 
 loop-again : tie.Need-loop-again Inv-loop μ-loop
 loop-again c =
-    let pre = c .before .before .before .before .before .before .before .before .before .before .before .before .before .before .before .before .before .before .before .before .pre in
+    let pre = c .before .before .before .before .before .before .before .before .before .before .before .before .before .before .before .before .before .before .before .before .before .before .before .before .pre in
     let loop = c .before .before .before .before .before .before .before .before .before .loop in
     let e : loop .i ≡ suc (loop .i - 1) = omega arith in
     let r = pre .0 in
@@ -52,17 +52,20 @@ loop-again c =
     (omega arith, stored-more _ _ _ _ _ _ _ _ (loop .i - 1) _ (loop .kinds) _ (c .before .before .before .before .before .kind-of-place .result) (rw e at (loop .inv .1)) (omega arith) long (c .before .before .before .before .before .kind-of-place .ensures) (c .before .before .put-kind .ensures), c .before .before .put-kind .kept .0 ∙ loop .inv .2)
 
 kind-at-requires : tie.Need-kind-at-requires Inv-loop μ-loop
-kind-at-requires c κs = omega (arith, c .before .before .before .before .before .before .before .before .before .before .before .before .before .pre .2, c .before .before .before .before .before .before .before .before .before .before .before .before .before .pre .5, c .before .before .loop .inv .2)
+kind-at-requires c κs = omega (arith, c .before .before .before .before .before .before .before .before .before .before .before .before .before .before .before .before .before .pre .2, c .before .before .before .before .before .before .before .before .before .before .before .before .before .before .before .before .before .pre .6, c .before .before .loop .inv .2)
 
 same-length : tie.Need-same-length Inv-loop μ-loop
-same-length c = c .before .before .before .loop .inv .2
+same-length c = c .before .before .before .before .before .before .before .fill-ends .kept .1 .0
+
+same-length-2 : tie.Need-same-length-2 Inv-loop μ-loop
+same-length-2 c = c .before .before .before .loop .inv .2
 
 returns : tie.Need-returns Inv-loop μ-loop
 returns c =
     let loop = c .before .before .before .loop in
     let e : loop .i ≡ 0 = omega arith in
     λ S I inputMarks outputMarks prepared.
-    c .kind-at .ensures ∙ loop .inv .1 .kept 0 (omega arith) (omega (arith, c .before .before .before .before .before .before .before .before .before .before .before .before .before .before .pre .2)) S I inputMarks outputMarks prepared
+    c .kind-at .ensures ∙ loop .inv .1 .kept 0 (omega arith) (omega (arith, c .before .before .before .before .before .before .before .before .before .before .before .before .before .before .before .before .before .before .pre .2)) S I inputMarks outputMarks prepared
 
 pub kind-within-spec : {M : Type 1} → statement M
 kind-within-spec =
@@ -70,7 +73,7 @@ kind-within-spec =
     (tie.spec
     Inv-loop
     μ-loop
-    tree-ends-requires
+    fill-ends-requires
     empty-kind-requires
     loop-holds
     sub-i
@@ -80,4 +83,5 @@ kind-within-spec =
     loop-again
     kind-at-requires
     same-length
+    same-length-2
     returns)

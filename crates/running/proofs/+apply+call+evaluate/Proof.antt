@@ -103,7 +103,7 @@ apply-child-place-requires t c κs =
     let s = c .before .before .before .args in
     let asked = c .before .before .before .pre .1 .0 in
     let inside = left-inside asked (c .if1 .left) in
-    omega (arith, asked .known .text .few)
+    omega (arith, asked .known .text .read .few)
 
 apply-call-requires : (t : ℕ) → apply-lts.Need-call-requires (
   add-row-reads.Asked,
@@ -116,7 +116,7 @@ apply-call-requires : (t : ℕ) → apply-lts.Need-call-requires (
 apply-call-requires t c κs =
     let s = c .before .before .before .before .before .args in
     let asked = c .before .before .before .before .before .pre .1 .0 in
-    let few = asked .known .text .few in
+    let few = asked .known .text .read .few in
     let behind = child-behind asked (c .before .before .if1 .left) (c .before .child-place .result) (c .before .child-place .ensures) in
     let callable = child-callable asked (c .before .before .if1 .left) (c .before .child-place .result) (c .before .child-place .ensures) in
     (omega (arith, c .before .before .before .before .before .pre .0, callable .inside), (callable, c .before .before .before .before .before .pre .1 .1))
@@ -152,7 +152,7 @@ call-symbol-of-requires : (t : ℕ) → call-lts.Need-symbol-of-requires (
   evaluate-below t,
   evaluate.Post,
 ) (call-at t) call.Post
-call-symbol-of-requires t c κs = omega (arith, c .before .pre .1 .0 .inside, c .before .pre .1 .0 .known .text .few)
+call-symbol-of-requires t c κs = omega (arith, c .before .pre .1 .0 .inside, c .before .pre .1 .0 .known .text .read .few)
 
 call-side-of-requires : (t : ℕ) → call-lts.Need-side-of-requires (
   symbol-of-reads.Asked,

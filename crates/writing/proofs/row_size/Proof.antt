@@ -15,7 +15,7 @@ row-at-requires c κs = search needs
 
 returns : tie.Need-returns
 returns c =
-    let a = c .before .before .before .before .args in
+    let a = c .before .before .before .before .before .args in
     let e : 1 ≡ length (numbersAt (a .rows .now) (a .k)) = size-leaf _ _ _ (c .before .before .row-at .ensures) (c .if1 .taken) in
     omega arith
 
@@ -26,17 +26,17 @@ cast-right : tie.Need-cast-right
 cast-right c = search needs
 
 -- what is known of the children where both have been read
-both : (c : tie.After-struct-known3) → (Children (c .before .before .before .before .before .before .args .rows .now) (c .before .before .before .before .before .before .args .k) (rowOf (c .before .before .before .before .row-at .result))) × (Sized (c .before .before .before .before .before .before .args .most) (c .before .before .before .before .before .before .args .rows .now) (c .before .before .before .before .before .before .args .sizes .now) (rowOf (c .before .before .before .before .row-at .result)))
+both : (c : tie.After-struct-known3) → (Children (c .before .before .before .before .before .before .before .args .rows .now) (c .before .before .before .before .before .before .before .args .k) (rowOf (c .before .before .before .before .row-at .result))) × (Sized (c .before .before .before .before .before .before .before .args .most) (c .before .before .before .before .before .before .before .args .rows .now) (c .before .before .before .before .before .before .before .args .sizes .now) (rowOf (c .before .before .before .before .row-at .result)))
 both c =
     let e = c .before .before .before .before .row-at .ensures in
-    let p = c .before .before .before .before .before .before .pre in
+    let p = c .before .before .before .before .before .before .before .pre in
     (children _ _ _ e (p .0) (omega arith) (c .before .before .if1 .left), sized _ _ _ e (p .0) (omega arith) (c .before .before .if1 .left) _ _ (p .1 .1))
 
 mul-size : tie.Need-mul-size
 mul-size c = search needs
 
-element-copy-out-size : tie.Need-element-copy-out-size
-element-copy-out-size c = let s = both c in omega arith
+shared-slice-read-size : tie.Need-shared-slice-read-size
+shared-slice-read-size c = let s = both (c .before) in omega arith
 
 add-size : tie.Need-add-size
 add-size c = let s = both (c .before) in omega arith
@@ -44,8 +44,8 @@ add-size c = let s = both (c .before) in omega arith
 mul-size-2 : tie.Need-mul-size-2
 mul-size-2 c = search needs
 
-element-copy-out-size-2 : tie.Need-element-copy-out-size-2
-element-copy-out-size-2 c = let s = both (c .before) in omega arith
+shared-slice-read-size-2 : tie.Need-shared-slice-read-size-2
+shared-slice-read-size-2 c = let s = both (c .before .before) in omega arith
 
 add-size-2 : tie.Need-add-size-2
 add-size-2 c = let s = both (c .before .before) in omega arith
@@ -65,10 +65,10 @@ row-size-spec =
     cast-left
     cast-right
     mul-size
-    element-copy-out-size
+    shared-slice-read-size
     add-size
     mul-size-2
-    element-copy-out-size-2
+    shared-slice-read-size-2
     add-size-2
     returns-2
     returns-3)
