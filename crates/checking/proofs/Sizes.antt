@@ -1,24 +1,17 @@
 -- The sizes of the limit and the buffers: which one is wrong first, and what holds where none is.
-use mathlib.Core.Path.{_≡_, refl, sym}
+use mathlib.Core.Path.{_≡_, sym}
 use mathlib.Core.List.{List}
-use mathlib.Core.Bool.{Bool, true, false, _||_, true≢false}
+use mathlib.Core.Bool.{true, false, _||_}
 use Prim.Native.Nat.{ℕ, zero, suc, _*_, _<_, _≤_}
 use native.Mathlib.Omega.{arith}
 use borrow.Author.Tests.{eq-eqb, ne-eqb, eqb-true, ltb-false, not-false}
 use lib.Dec.{ltb}
 use lib.ListN.{length}
 use Rattle.foundation.specs.Search.{first, first-at, first-none, first-clear}
+use Rattle.foundation.specs.TestLaws.{or-first, or-second}
 use Rattle.model.specs.Tables.{Contract}
 use Rattle.model.specs.Checking.{limitWrong}
 use Rattle.kind_lists.specs.Listing.{Room}
-
-or-first : (a b : Bool) → (a || b) ≡ false → a ≡ false
-or-first true b e = absurd (true≢false e)
-or-first false b e = refl
-
-or-second : (a b : Bool) → (a || b) ≡ false → b ≡ false
-or-second true b e = absurd (true≢false e)
-or-second false b e = e
 
 pub limit-few : (L : ℕ) → (ltb L 1 || ltb 512 L) ≡ false → L ≤ 512
 limit-few L e = ltb-false 512 L (or-second (ltb L 1) (ltb 512 L) e)
