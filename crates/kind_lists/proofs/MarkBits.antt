@@ -14,8 +14,8 @@ use lib.Seq.{getD-set-same, getD-set-other}
 use Rattle.foundation.specs.Tests.{choose, _or_, or-left, or-right, test-false, false-test}
 use Rattle.foundation.specs.Words.{bit}
 use Rattle.foundation.specs.Bits.{bit-or, bit-shl, bit-ones}
-use Rattle.kind_lists.specs.Listing.{paddedKind}
-use Rattle.kind_lists.specs.Marks.{agreesUnder, SomeEarlier, MarksOf, MarkedFrom}
+use Rattle.kind_lists.specs.Listing.{paddedKind, sameWords}
+use Rattle.kind_lists.specs.Marks.{shown, SomeEarlier, MarksOf, MarkedFrom}
 
 pub bit-hit : (w s : ℕ) {r a : Bool} → w / 2 ^ s % 2 ≡ 1 → r ≡ a → r ≡ (bit w s && a)
 unfolding bit
@@ -30,9 +30,10 @@ second true b e = e
 second false b e = absurd (let z : _≡_ {A = ℕ} 0 1 = cc in omega arith)
 
 -- a row of the class
-pub earlier-row : (words masks kind : List ℕ) (s i j : ℕ) (marked : Bool) → kind ≡ paddedKind words j → i < j
-    → (marked && agreesUnder words i kind masks s) ≡ true → SomeEarlier words masks s j
-earlier-row words masks kind s i j marked e l t = (i, l, ap (λ (k : List ℕ). agreesUnder words i k masks s) (sym e) ∙ second marked _ t)
+pub earlier-row : (words masks kind mask seen : List ℕ) (s i j : ℕ) (marked : Bool)
+    → kind ≡ paddedKind words j → mask ≡ paddedKind masks s → seen ≡ shown mask kind → i < j
+    → (marked && sameWords (shown mask (paddedKind words i)) seen) ≡ true → SomeEarlier words masks s j
+earlier-row words masks kind mask seen s i j marked ek em es l t = (i, l, rw (es, em, ek) at (second marked _ t))
 
 pub true-not-false : {X : Type 0} → true ≡ false → X
 true-not-false e = absurd (let z : _≡_ {A = ℕ} 0 1 = cc in omega arith)

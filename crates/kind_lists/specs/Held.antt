@@ -17,7 +17,7 @@ use Rattle.model.specs.Rounds.{kindAutomaton, ListedKind, kindAt, lists}
 use Rattle.model.specs.Checking.{rowNumbers, kindNumbers}
 use Rattle.model.proofs.Rounds.Covering.{HasState, lists-has, kinds-decided}
 use Rattle.model.proofs.Rounds.Buffers.{FiveWords}
-use Rattle.kind_lists.specs.Listing.{sameKind, kindPlace, kindListed, withKind, withRow}
+use Rattle.kind_lists.specs.Listing.{sameWords, sameKind, kindPlace, kindListed, withKind, withRow}
 
 -- a list of five is its five numbers
 pub five : (l : List ℕ) → length l ≡ 5 → l ≡ getD l 0 0 ∷ getD l 1 0 ∷ getD l 2 0 ∷ getD l 3 0 ∷ getD l 4 0 ∷ []
@@ -59,7 +59,7 @@ all-five a b c d e t =
 
 -- the test of five words, both ways
 pub same-kind-in : (words : List ℕ) (j : ℕ) (kind : List ℕ) → length kind ≡ 5 → sameKind words j (kind ++ (0 ∷ [])) ≡ true → kindIn words j ≡ kind
-unfolding sameKind
+unfolding sameWords
 same-kind-in words j kind e t =
     let f0 = front kind e 0 (omega arith) in
     let f1 = front kind e 1 (omega arith) in
@@ -75,7 +75,7 @@ same-kind-in words j kind e t =
     rw (g0, g1, g2, g3, g4) (sym (five kind e))
 
 pub in-same-kind : (words : List ℕ) (j : ℕ) (kind : List ℕ) → length kind ≡ 5 → kindIn words j ≡ kind → sameKind words j (kind ++ (0 ∷ [])) ≡ true
-unfolding sameKind
+unfolding sameWords
 in-same-kind words j kind e h =
     let at : (w x : ℕ) → w < 5 → getD (kindIn words j) w 0 ≡ x → eqb x (getD (kind ++ (0 ∷ [])) w 0) ≡ true =
     λ w x l q. eq-eqb x (getD (kind ++ (0 ∷ [])) w 0) (sym q ∙ ap (λ (k : List ℕ). getD k w 0) h ∙ sym (front kind e w l)) in

@@ -14,11 +14,20 @@ use Rattle.kind_lists.specs.declared.listing.Found.the-variants as found
 use Rattle.kind_lists.specs.declared.listing.Offered.{Offered}
 use Rattle.kind_lists.specs.declared.listing.Offered.the-variants as offered
 
+-- row j of the words, with a sixth word 0
+abbrev pub paddedKind : List ℕ → ℕ → List ℕ
+paddedKind words j =
+    getD words (5 * j) 0 ∷ getD words (5 * j + 1) 0 ∷ getD words (5 * j + 2) 0 ∷ getD words (5 * j + 3) 0 ∷ getD words (5 * j + 4) 0 ∷ 0 ∷ []
+
+-- two kinds are the same
+unfoldable pub sameWords : List ℕ → List ℕ → Bool
+sameWords a b =
+    (((eqb (getD a 0 0) (getD b 0 0) && eqb (getD a 1 0) (getD b 1 0)) && eqb (getD a 2 0) (getD b 2 0)) && eqb (getD a 3 0) (getD b 3 0))
+    && eqb (getD a 4 0) (getD b 4 0)
+
 -- row j of the words is this kind
-unfoldable pub sameKind : List ℕ → ℕ → List ℕ → Bool
-sameKind words j kind =
-    (((eqb (getD words (5 * j) 0) (getD kind 0 0) && eqb (getD words (5 * j + 1) 0) (getD kind 1 0)) && eqb (getD words (5 * j + 2) 0) (getD kind 2 0)) && eqb (getD words (5 * j + 3) 0) (getD kind 3 0))
-    && eqb (getD words (5 * j + 4) 0) (getD kind 4 0)
+abbrev pub sameKind : List ℕ → ℕ → List ℕ → Bool
+sameKind words j kind = sameWords (paddedKind words j) kind
 
 -- the first of n rows that is this kind, or n
 unfoldable pub kindPlace : List ℕ → ℕ → List ℕ → ℕ
@@ -43,11 +52,6 @@ withKind words j kind =
 
 abbrev pub withRow : List ℕ → (j symbol left right : ℕ) → List ℕ
 withRow rows j symbol left right = set (set (set rows (3 * j) symbol) (3 * j + 1) left) (3 * j + 2) right
-
--- the kind of row j, with a sixth word 0
-abbrev pub paddedKind : List ℕ → ℕ → List ℕ
-paddedKind words j =
-    getD words (5 * j) 0 ∷ getD words (5 * j + 1) 0 ∷ getD words (5 * j + 2) 0 ∷ getD words (5 * j + 3) 0 ∷ getD words (5 * j + 4) 0 ∷ 0 ∷ []
 
 -- some accepted input state is in the kind, and some output state of procedure 0 that is not accepted
 abbrev pub breaking : (accepted refused : ℕ) → List ℕ → Bool

@@ -1,18 +1,17 @@
 -- Marks of rows: a row that is not marked for a symbol agrees with an earlier row on what the symbol's mask shows.
 use mathlib.Core.Path.{_≡_, sym}
 use mathlib.Core.List.{List, [], _∷_}
-use mathlib.Core.Bool.{Bool, true, false, _&&_}
+use mathlib.Core.Bool.{Bool, true, false}
 use Prim.Native.Nat.{ℕ, zero, suc, _+_, _*_, _≤_, _<_}
 use native.Mathlib.Omega.{arith}
 use borrow.Author.Tests.{eqb-true}
 use lib.Bits.{bitAnd}
-use lib.Dec.{eqb}
 use lib.ListN.{length, getD}
 use Rattle.foundation.specs.Words.{bit}
 use Rattle.model.specs.Tables.{Contract}
 use Rattle.model.specs.Facts.{onSide}
 use Rattle.classes.specs.Masks.{AgreeUnder, Covers}
-use Rattle.kind_lists.specs.Listing.{paddedKind}
+use Rattle.kind_lists.specs.Listing.{paddedKind, sameWords}
 use Rattle.kind_lists.specs.Held.{kindIn, all-five}
 
 -- the mask of symbol s: five words a symbol
@@ -20,18 +19,18 @@ abbrev pub maskIn : List ℕ → ℕ → List ℕ
 maskIn masks s =
     getD masks (5 * s) 0 ∷ getD masks (5 * s + 1) 0 ∷ getD masks (5 * s + 2) 0 ∷ getD masks (5 * s + 3) 0 ∷ getD masks (5 * s + 4) 0 ∷ []
 
+-- what a mask shows of a kind
+abbrev pub shown : (mask kind : List ℕ) → List ℕ
+shown mask kind =
+    bitAnd (getD kind 0 0) (getD mask 0 0) ∷ bitAnd (getD kind 1 0) (getD mask 1 0) ∷ bitAnd (getD kind 2 0) (getD mask 2 0) ∷ bitAnd (getD kind 3 0) (getD mask 3 0) ∷ bitAnd (getD kind 4 0) (getD mask 4 0) ∷ 0 ∷ []
+
 -- row i agrees with a kind on what the mask of symbol s shows
-unfoldable pub agreesUnder : List ℕ → ℕ → List ℕ → List ℕ → ℕ → Bool
-agreesUnder words i kind masks s =
-    (((eqb (bitAnd (getD words (5 * i) 0) (getD masks (5 * s) 0)) (bitAnd (getD kind 0 0) (getD masks (5 * s) 0))
-    && eqb (bitAnd (getD words (5 * i + 1) 0) (getD masks (5 * s + 1) 0)) (bitAnd (getD kind 1 0) (getD masks (5 * s + 1) 0)))
-    && eqb (bitAnd (getD words (5 * i + 2) 0) (getD masks (5 * s + 2) 0)) (bitAnd (getD kind 2 0) (getD masks (5 * s + 2) 0)))
-    && eqb (bitAnd (getD words (5 * i + 3) 0) (getD masks (5 * s + 3) 0)) (bitAnd (getD kind 3 0) (getD masks (5 * s + 3) 0)))
-    && eqb (bitAnd (getD words (5 * i + 4) 0) (getD masks (5 * s + 4) 0)) (bitAnd (getD kind 4 0) (getD masks (5 * s + 4) 0))
+abbrev pub agreesUnder : List ℕ → ℕ → List ℕ → List ℕ → ℕ → Bool
+agreesUnder words i kind masks s = sameWords (shown (paddedKind masks s) (paddedKind words i)) (shown (paddedKind masks s) kind)
 
 pub agrees-under : (words : List ℕ) (i j : ℕ) (masks : List ℕ) (s : ℕ) → agreesUnder words i (paddedKind words j) masks s ≡ true
     → AgreeUnder (maskIn masks s) (kindIn words j) (kindIn words i)
-unfolding agreesUnder
+unfolding sameWords
 agrees-under words i j masks s t =
     let (h0, h1, h2, h3, h4) = all-five _ _ _ _ _ t in
     record { words = go (eqb-true _ _ h0) (eqb-true _ _ h1) (eqb-true _ _ h2) (eqb-true _ _ h3) (eqb-true _ _ h4) }

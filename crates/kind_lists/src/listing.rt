@@ -2,7 +2,7 @@
 ghost use mathlib.Core.Path.{_≡_};
 ghost use Prim.Native.Nat.{_+_, _*_, _-_, _<_, _≤_};
 ghost use lib.ListN.{length};
-ghost use Rattle.kind_lists.specs.Listing.{sameKind, kindPlace, foundAt, kindListed, withKind, withRow, paddedKind, breaking, clearedFrom, offering, wasFound, Room, Becomes};
+ghost use Rattle.kind_lists.specs.Listing.{sameWords, sameKind, kindPlace, foundAt, kindListed, withKind, withRow, paddedKind, breaking, clearedFrom, offering, wasFound, Room, Becomes};
 ghost use mathlib.Core.Bool.{_&&_};
 ghost use lib.Dec.{ltb};
 use tables::Symbol;
@@ -31,14 +31,35 @@ pub struct Verdicts {
     pub refused: u64,
 }
 
+// Row j of the words, with a sixth word 0.
+pub fn kind_at(words: &[u64], j: usize) -> [u64; 6]
+    requires { ⌜ 5 * j + 5 ≤ length (now words) ⌝ }
+    ensures { λ r. ⌜ r ≡ paddedKind (now (words .entry)) j ⌝ }
+{
+    [
+        words[5 * j],
+        words[5 * j + 1],
+        words[5 * j + 2],
+        words[5 * j + 3],
+        words[5 * j + 4],
+        0,
+    ]
+}
+
+// Whether two kinds are the same.
+pub fn same_words(a: &[u64; 6], b: &[u64; 6]) -> bool
+    ensures { λ r. ⌜ r ≡ sameWords (now (a .entry)) (now (b .entry)) ⌝ }
+{
+    ((((a[0] == b[0]) & (a[1] == b[1])) & (a[2] == b[2])) & (a[3] == b[3])) & (a[4] == b[4])
+}
+
 // Whether row j has this kind.
 pub fn same_kind(words: &[u64], j: usize, kind: &[u64; 6]) -> bool
     requires { ⌜ 5 * j + 5 ≤ length (now words) ⌝ }
     ensures { λ r. ⌜ r ≡ sameKind (now (words .entry)) j (now (kind .entry)) ⌝ }
 {
-    (((words[5 * j] == kind[0]) & (words[5 * j + 1] == kind[1])) & (words[5 * j + 2] == kind[2]))
-        & (words[5 * j + 3] == kind[3])
-        & (words[5 * j + 4] == kind[4])
+    let row = kind_at(words, j);
+    same_words(&row, kind)
 }
 
 // The first of the first `count` rows that has this kind.
@@ -146,21 +167,6 @@ pub fn store_kind(words: &mut [u64], j: usize, kind: &[u64; 6])
     words[5 * j + 2] = kind[2];
     words[5 * j + 3] = kind[3];
     words[5 * j + 4] = kind[4];
-}
-
-// The kind of row j, with a sixth word 0.
-pub fn kind_at(words: &[u64], j: usize) -> [u64; 6]
-    requires { ⌜ 5 * j + 5 ≤ length (now words) ⌝ }
-    ensures { λ r. ⌜ r ≡ paddedKind (now (words .entry)) j ⌝ }
-{
-    [
-        words[5 * j],
-        words[5 * j + 1],
-        words[5 * j + 2],
-        words[5 * j + 3],
-        words[5 * j + 4],
-        0,
-    ]
 }
 
 // Whether a kind breaks the contract.

@@ -21,7 +21,6 @@ use crate::listing::offer;
 use crate::marking::mark_rows;
 use kinds::next_kind;
 use lanes::Layout;
-use lanes::place;
 use tables::Symbol;
 
 // How a stretch of work ends.

@@ -6,45 +6,46 @@ ghost use Prim.Native.Nat.{_+_, _*_, _^_, _<_, _≤_};
 ghost use lib.ListN.{getD, length};
 ghost use Rattle.foundation.specs.Tests.{choose};
 ghost use Rattle.foundation.specs.Words.{bit};
-ghost use Rattle.kind_lists.specs.Listing.{paddedKind};
-ghost use Rattle.kind_lists.specs.Marks.{agreesUnder, SomeEarlier, MarksOf, MarkedFrom};
+ghost use Rattle.kind_lists.specs.Listing.{paddedKind, sameWords};
+ghost use Rattle.kind_lists.specs.Marks.{shown, SomeEarlier, MarksOf, MarkedFrom};
 use crate::listing::kind_at;
+use crate::listing::same_words;
 
-// Whether row i agrees with a kind on what the symbol's mask shows.
-pub fn agrees(words: &[u64], i: usize, kind: &[u64; 6], masks: &[u64], symbol: usize) -> bool
-    requires { ⌜ (5 * i + 5 ≤ length (now words)) × (5 * symbol + 5 ≤ length (now masks)) ⌝ }
-    ensures { λ r. ⌜ r ≡ agreesUnder (now (words .entry)) i (now (kind .entry)) (now (masks .entry)) symbol ⌝ }
+// What a mask shows of a kind.
+fn shown(mask: &[u64; 6], kind: &[u64; 6]) -> [u64; 6]
+    ensures { λ r. ⌜ r ≡ shown (now (mask .entry)) (now (kind .entry)) ⌝ }
 {
-    let m0 = masks[5 * symbol];
-    let m1 = masks[5 * symbol + 1];
-    let m2 = masks[5 * symbol + 2];
-    let m3 = masks[5 * symbol + 3];
-    let m4 = masks[5 * symbol + 4];
-    (((((words[5 * i] & m0) == (kind[0] & m0)) & ((words[5 * i + 1] & m1) == (kind[1] & m1)))
-        & ((words[5 * i + 2] & m2) == (kind[2] & m2)))
-        & ((words[5 * i + 3] & m3) == (kind[3] & m3)))
-        & ((words[5 * i + 4] & m4) == (kind[4] & m4))
+    [
+        kind[0] & mask[0],
+        kind[1] & mask[1],
+        kind[2] & mask[2],
+        kind[3] & mask[3],
+        kind[4] & mask[4],
+        0,
+    ]
 }
 
-// Whether row i is a marked row that agrees with the kind.
+// Whether row i is a marked row of which the mask shows the same.
 pub fn in_class(
     words: &[u64],
     i: usize,
-    kind: &[u64; 6],
-    masks: &[u64],
+    mask: &[u64; 6],
+    seen: &[u64; 6],
     firsts: &[u16],
     symbol: usize,
 ) -> bool
-    requires { ⌜ (5 * i + 5 ≤ length (now words)) × (5 * symbol + 5 ≤ length (now masks)) × (symbol < 16) × (i < length (now firsts)) ⌝ }
-    ensures { λ r. ⌜ r ≡ (bit (getD (now (firsts .entry)) i 0) symbol && agreesUnder (now (words .entry)) i (now (kind .entry)) (now (masks .entry)) symbol) ⌝ }
+    requires { ⌜ (5 * i + 5 ≤ length (now words)) × (symbol < 16) × (i < length (now firsts)) ⌝ }
+    ensures { λ r. ⌜ r ≡ (bit (getD (now (firsts .entry)) i 0) symbol && sameWords (shown (now (mask .entry)) (paddedKind (now (words .entry)) i)) (now (seen .entry))) ⌝ }
 {
     if (firsts[i] >> symbol as u16) % 2 == 1 {
-        return agrees(words, i, kind, masks, symbol);
+        let kind = kind_at(words, i);
+        let shows = shown(mask, &kind);
+        return same_words(&shows, seen);
     }
     false
 }
 
-// Whether row j, which has this kind, is the first of its class for the symbol.
+// Whether row j, which has this kind, is the first of its class for the symbol. A mask has five words, as a kind has.
 pub fn is_first(
     words: &[u64],
     j: usize,
@@ -56,9 +57,11 @@ pub fn is_first(
     requires { ⌜ (5 * j ≤ length (now words)) × (5 * symbol + 5 ≤ length (now masks)) × (symbol < 16) × (j ≤ length (now firsts)) × (now kind ≡ paddedKind (now words) j) ⌝ }
     ensures { λ r. ⌜ (r ≡ false → SomeEarlier (now (words .entry)) (now (masks .entry)) symbol j) ⌝ }
 {
+    let mask = kind_at(masks, symbol);
+    let seen = shown(&mask, kind);
     let mut i: usize = 0;
     while i < j {
-        if in_class(words, i, kind, masks, firsts, symbol) {
+        if in_class(words, i, &mask, &seen, firsts, symbol) {
             return false;
         }
         i += 1;
