@@ -1,4 +1,5 @@
--- The end of the work: what the answer and the cleared buffer are of the outcome.
+-- The end of the work: what the answer and the cleared buffer are of the outcome. Its start: what a plan asks for, and that
+-- procedure 0 may be called by it.
 use mathlib.Core.Path.{_≡_, refl, ap, sym, _∙_}
 use mathlib.Core.List.{List, [], _∷_}
 use mathlib.Core.Logic.{inl, inr}

@@ -1,5 +1,5 @@
--- `running::run_with` meets its contract: the outcome of calling procedure 0 at place 0 is the run's step, and clearing and
--- answering are what closing does with it.
+-- `running::run_with` meets its contract: the plan of the filled ends may be called, the outcome of calling procedure 0 at
+-- place 0 is the run's step, and clearing and answering are what closing does with it.
 use mathlib.Core.Path.{_≡_, ap, ap₂, _∙_}
 use Prim.Native.Nat.{ℕ, _/_}
 use native.Mathlib.Omega.{arith}
@@ -13,16 +13,19 @@ use Rattle.running.proofs.run_with.Tie as tie
 
 fill-ends-requires : tie.Need-fill-ends-requires
 fill-ends-requires c κs =
-    let read = c .before .before .before .before .before .before .before .pre .1 in
-    (read .readable, (read .few, c .before .before .before .before .before .before .before .pre .2))
+    let pre = c .before .before .before .before .before .before .before .pre in
+    (pre .1 .readable, (pre .1 .few, pre .2))
 
 plan-requires : tie.Need-plan-requires
 plan-requires c κs =
-    let tables = c .before .before .before .before .before .before .before .before .before .before .before .pre .0 in
-    (small-rules tables, (tables .procedures .≤most, tables .nodesLong, c .before .before .before .before .before .before .before .before .before .before .before .pre .1 .few, omega (arith, c .before .before .before .before .before .before .before .before .before .before .before .pre .2, c .before .before .before .fill-ends .kept .1 .0)))
+    let pre = c .before .before .before .before .before .before .before .before .before .before .before .pre in
+    let tables = pre .0 in
+    (small-rules tables, (tables .procedures .≤most, tables .nodesLong, pre .1 .few, omega (arith, pre .2, c .before .before .before .fill-ends .kept .1 .0)))
 
 start-anew-requires : tie.Need-start-anew-requires
-start-anew-requires c κs = (callable (c .before .before .before .before .before .before .before .before .before .before .before .before .before .before .pre .0) (c .before .before .before .before .before .before .before .before .before .before .before .before .before .before .pre .1) (c .before .before .before .before .before .before .fill-ends .ensures) (c .before .before .plan .ensures), c .before .before .before .before .before .before .before .before .before .before .before .before .before .before .pre .3)
+start-anew-requires c κs =
+    let pre = c .before .before .before .before .before .before .before .before .before .before .before .before .before .before .pre in
+    (callable (pre .0) (pre .1) (c .before .before .before .before .before .before .fill-ends .ensures) (c .before .before .plan .ensures), pre .3)
 
 numbers-kept-requires : tie.Need-numbers-kept-requires
 numbers-kept-requires c κs = tt
@@ -42,7 +45,8 @@ same-length-2 c = c .before .before .before .clear-from .kept .0 ∙ c .before .
 returns : tie.Need-returns
 returns c =
     let s = c .before .before .before .before .before .before .before .before .before .before .before .before .before .before .before .before .before .before .before .before .before .before .before .before .args in
-    let asked = callable (c .before .before .before .before .before .before .before .before .before .before .before .before .before .before .before .before .before .before .before .before .before .before .before .before .pre .0) (c .before .before .before .before .before .before .before .before .before .before .before .before .before .before .before .before .before .before .before .before .before .before .before .before .pre .1) (c .before .before .before .before .before .before .before .before .before .before .before .before .before .before .before .before .fill-ends .ensures) (c .before .before .before .before .before .before .before .before .before .before .before .before .plan .ensures) in
+    let pre = c .before .before .before .before .before .before .before .before .before .before .before .before .before .before .before .before .before .before .before .before .before .before .before .before .pre in
+    let asked = callable (pre .0) (pre .1) (c .before .before .before .before .before .before .before .before .before .before .before .before .before .before .before .before .fill-ends .ensures) (c .before .before .before .before .before .before .before .before .before .before .before .before .plan .ensures) in
     let work : Ended = c .before .before .before .before .before .before .before .before .before .start-anew .result in
     let left = c .before .before .before .before .before .before .before .before .before .start-anew .last .1 .0 in
     let starts = c .before .before .before .before .before .before .before .before .before .start-anew .ensures in
