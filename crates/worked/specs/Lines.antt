@@ -1,21 +1,12 @@
 -- Lines: the text of the worked cases, "case, answer, numbers". Document 01's definitions give the answers.
 use mathlib.Core.List.{List, [], _∷_, _++_}
 use Prim.Native.Nat.{ℕ}
-use Rattle.model.specs.Tables.{Contract, contract}
+use Rattle.model.specs.Tables.{Contract}
 use Rattle.model.specs.Answers.{Answer}
 use Rattle.script.specs.Meaning.{answerText}
 use Rattle.worked_table.specs.Questions as questions
 use Rattle.worked_table.specs.Questions.{Question, ask}
-use Rattle.worked_table.specs.Contracts.{C1, C2, C3}
-
--- "types of C1"
-abbrev pub typed : (counts outputMarks nodes rules : List ℕ) → Contract
-typed counts outputMarks nodes rules =
-    contract 2 1 2 counts (0 ∷ 0 ∷ 0 ∷ 0 ∷ 0 ∷ 1 ∷ 0 ∷ 0 ∷ []) (1 ∷ []) (0 ∷ 1 ∷ 1 ∷ 1 ∷ 1 ∷ []) outputMarks nodes rules
-
--- "Output marks are 1, 1 unless given."
-abbrev pub bothAccepted : List ℕ
-bothAccepted = 1 ∷ 1 ∷ []
+use Rattle.worked_table.specs.Contracts.{bothAccepted, C1, C2, C3}
 
 -- a name, a space, an answer and a line feed
 abbrev pub answerLine : List ℕ → Answer → List ℕ
