@@ -3,14 +3,15 @@ use mathlib.Core.List.{List, [], _∷_, _++_}
 use Prim.Native.Nat.{ℕ}
 use Rattle.model.specs.Tables.{Contract}
 use Rattle.model.specs.Answers.{Answer}
+use Rattle.script.specs.Meaning as script
 use Rattle.script.specs.Meaning.{answerText}
 use Rattle.worked_table.specs.Questions as questions
 use Rattle.worked_table.specs.Questions.{Question, ask}
 use Rattle.worked_table.specs.Contracts.{bothAccepted, C1, C2, C3}
 
--- a name, a space, an answer and a line feed
+-- the line of an answer, behind a name
 abbrev pub answerLine : List ℕ → Answer → List ℕ
-answerLine name answer = name ++ (32 ∷ []) ++ answerText answer ++ (10 ∷ [])
+answerLine name answer = name ++ script.line (answerText answer)
 
 unfoldable pub line : List ℕ → Contract → Question → List ℕ
 line name C question = answerLine name (ask C question .answer)
