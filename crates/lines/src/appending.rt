@@ -7,7 +7,7 @@ ghost use Rattle.model.specs.WritingOut.{Written};
 ghost use Rattle.answers.specs.Numbers.{numbered, writingAnswer};
 ghost use Rattle.printing.specs.Decimals.{decimal};
 ghost use Rattle.printing.specs.Appending.{placeAfter};
-ghost use Rattle.script.specs.Meaning.{spaced, answerText, writtenText};
+ghost use Rattle.script.specs.Meaning.{line, spaced, answerText, writtenText};
 use crate::lists::append_behind_space;
 use crate::lists::append_numbers;
 use answers::WritingAnswer;
@@ -50,6 +50,16 @@ pub fn append_answer(out: &mut [u8], at: usize, answer: Answer) -> usize
         Answer::Written(count) => append_one(out, at, b"written ", count),
         Answer::Refused(number, place) => append_two(out, at, b"refused ", number, place),
     }
+}
+
+// The line of an answer, behind its label.
+pub fn append_answer_line(out: &mut [u8], at: usize, answer: Answer) -> usize
+    ensures { λ r. ⌜ r ≡ placeAfter (now (out .entry)) at (length (line (answerText (numbered answer)))) ⌝ }
+    ensures { λ _. ⌜ now (out .exit) ≡ sets (now (out .entry)) at (line (answerText (numbered answer))) ⌝ }
+{
+    let start = append_byte(out, at, 32);
+    let end = append_answer(out, start, answer);
+    append_byte(out, end, 10)
 }
 
 // The first numbers of a list, behind a colon.

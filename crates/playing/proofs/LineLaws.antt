@@ -14,13 +14,7 @@ use Rattle.printing.specs.Decimals.{digitsOnto, decimal}
 use Rattle.printing.proofs.Runs.{Appended, appended-both}
 use Rattle.lines.proofs.Listings.{Listed, listed-more}
 use Rattle.script.specs.Phrases as phrases
-use Rattle.script.specs.Meaning.{State, labelled, spaced, untouched, answerText, writtenText}
-use Rattle.playing.specs.Printed.{line}
-
--- a space, a text and a line feed, one behind another
-pub line-appended : (entry : List ℕ) (at : ℕ) (text : List ℕ) {p q r : ℕ} {a b out : List ℕ}
-    → Appended entry at (32 ∷ []) p a → Appended a p text q b → Appended b q (10 ∷ []) r out → Appended entry at (line text) r out
-line-appended entry at text x y z = appended-both entry at (32 ∷ text) (10 ∷ []) (appended-both entry at (32 ∷ []) text x y) z
+use Rattle.script.specs.Meaning.{line, spaced, untouched, answerText, writtenText}
 
 -- sevens, one behind another
 pub sevens-more : (entry : List ℕ) (at count : ℕ) {out : List ℕ} {place i next : ℕ} {after : List ℕ} → Listed entry at (untouched count) out place i → i < count
@@ -95,10 +89,6 @@ pub sevens-short : (count : ℕ) → length (spaced (untouched count)) ≡ 2 * c
 unfolding spaced decimal digitsOnto
 sevens-short zero = refl
 sevens-short (suc count) = omega (arith, sevens-short count)
-
--- a line behind its label
-pub line-labelled : (s : State) (text : List ℕ) → s .label ++ line text ≡ labelled s text
-line-labelled s text = sym (append-assoc (s .label) (32 ∷ text) (10 ∷ []))
 
 pub line-length : (text : List ℕ) → length (line text) ≡ 2 + length text
 line-length text = omega (arith, length-append text (10 ∷ []))

@@ -11,7 +11,7 @@ use Rattle.model.specs.Answers.{Answer}
 use Rattle.model.specs.WritingOut.{Written}
 use Rattle.printing.proofs.Runs.{Appended}
 use Rattle.script.specs.Spans.{overwritten}
-use Rattle.script.specs.Meaning.{State, labelled, spaced, answerText, untouched}
+use Rattle.script.specs.Meaning.{State, line, labelled, spaced, answerText, untouched}
 use Rattle.playing.specs.declared.desks.Desk.{Desk}
 use Rattle.playing.specs.declared.desks.Left.{Left}
 use Rattle.playing.specs.declared.questions.Question.{Question}
@@ -19,15 +19,15 @@ use Rattle.playing.specs.declared.questions.Lent.{Lent}
 use Rattle.playing.specs.declared.showing.Printed.the-variants as printed
 use Rattle.playing.specs.Desks.{stretch, span, stateOf, contractAt, deskWithLeft, InOrder}
 use Rattle.playing.specs.Questions.{Asked, asked, Comes, Lends, questionStep, lentTo, leftAfter, Small, setsRows, deskAfter}
-use Rattle.playing.specs.Printed.{line, printedText, PrintedFits, mostOutput}
+use Rattle.playing.specs.Printed.{printedText, PrintedFits, mostOutput}
 use Rattle.playing.specs.Plays.{Plays}
 use Rattle.playing.proofs.QuestionLaws.{answered, question-steps, question-order}
-use Rattle.playing.proofs.LineLaws.{Both, appended-first, appended-within, appended-two, line-labelled, line-length, answer-short, spaced-short, sevens-short}
+use Rattle.playing.proofs.LineLaws.{Both, appended-first, appended-within, appended-two, line-length, answer-short, spaced-short, sevens-short}
 
 -- one line, and two
 module _ (entry text : List ℕ) {place : ℕ} {out : List ℕ} (a : Appended entry 0 (line text) place out) (h : length (line text) ≤ length entry) where
   pub one-line : (s : State) → printedText (s .label) out (printed.Line place) ≡ labelled s text
-  one-line s = ap (λ (l : List ℕ). s .label ++ l) (appended-first entry (line text) a h) ∙ line-labelled s text
+  one-line s = ap (λ (l : List ℕ). s .label ++ l) (appended-first entry (line text) a h)
 
   pub one-fits : PrintedFits (printed.Line place) (length out)
   one-fits = appended-within entry (line text) a h
@@ -36,7 +36,7 @@ module _ (entry x y : List ℕ) {n m : ℕ} {mid out : List ℕ} (a : Appended e
   pub two-lines : (s : State) → printedText (s .label) out (printed.Lines n m) ≡ labelled s x ++ labelled s y
   two-lines s =
       let both : Both (line x) (line y) n m out = appended-two entry (line x) (line y) a b h in
-      ap₂ _++_ (ap (λ (l : List ℕ). s .label ++ l) (both .front) ∙ line-labelled s x) (ap (λ (l : List ℕ). s .label ++ l) (both .back) ∙ line-labelled s y)
+      ap₂ _++_ (ap (λ (l : List ℕ). s .label ++ l) (both .front)) (ap (λ (l : List ℕ). s .label ++ l) (both .back))
 
   pub two-fit : PrintedFits (printed.Lines n m) (length out)
   two-fit = let both : Both (line x) (line y) n m out = appended-two entry (line x) (line y) a b h in (both .ordered, both .within)

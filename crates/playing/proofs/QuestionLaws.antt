@@ -12,14 +12,14 @@ use borrow.Author.Tests.{lt-ltb, ltb-true, ltb-false, lt-leb, ne-eqb}
 use Rattle.foundation.specs.Tests.{choose}
 use Rattle.foundation.specs.Search.{first}
 use Rattle.model.specs.Tables.{Contract}
-use Rattle.model.specs.Answers.{Verdict, fine, refused, _then_, refuseIf, refuseFirst, Answer, admitted, judged, tree, pass, ran, written, refusal, given}
+use Rattle.model.specs.Answers.{Verdict, fine, refused, _then_, refuseIf, refuseFirst, Answer, refusal, given}
 use Rattle.model.specs.Admission.{sizes, lengths, inputRows, entries, counts, nodes, rules, facts, admission}
 use Rattle.model.specs.Documents.{document}
 use Rattle.model.specs.Checking.{Checked, checking, checkingVerdict}
 use Rattle.model.specs.Running.{Ran, rowsWrong, running, runningVerdict}
 use Rattle.script.specs.Spans.{overwritten}
 use Rattle.script.specs.Meaning as meaning
-use Rattle.script.specs.Meaning.{State, contractOf, withLeft, currentRows, untouched, labelled, answerText}
+use Rattle.script.specs.Meaning.{State, contractOf, withLeft, writesRows, currentRows, untouched, labelled, answerText}
 use Rattle.playing.specs.declared.questions.Question.{Question}
 use Rattle.playing.specs.declared.questions.Question.the-variants as question
 use Rattle.playing.specs.declared.questions.Lent.{Lent}
@@ -27,7 +27,7 @@ use Rattle.playing.specs.declared.desks.Left.{Left}
 use Rattle.playing.specs.declared.desks.Left.the-variants as left
 use Rattle.playing.specs.declared.desks.Desk.{Desk}
 use Rattle.playing.specs.Desks.{kept, stretch, span, tablesOf, leftOf, stateOf, deskWithLeft, Inside, LeftFits, InOrder}
-use Rattle.playing.specs.Questions.{Asked, asked, Comes, Lends, questionStep, limitOut, roomOut, lentTo, leftAfter, Small, writesRows, setsRows, deskAfter}
+use Rattle.playing.specs.Questions.{Asked, asked, Comes, Lends, questionStep, limitOut, roomOut, lentTo, leftAfter, Small, setsRows, deskAfter}
 use Rattle.playing.proofs.StateLaws.{agree-overwritten, tables-agree}
 
 -- admission's refusals have the numbers 1 to 8
@@ -107,16 +107,6 @@ room-wrong room t =
     let l : 4096 < room = ltb-true 4096 room t in
     or-true (not (eqb (length (untouched (3 * room)) % 3) 0)) (ltb 12288 (length (untouched (3 * room)))) (lt-ltb 12288 (length (untouched (3 * room))) (omega arith))
 
--- the current rows, by a test
-current-rows : (a : Answer) (left older : List ℕ) → currentRows a left older ≡ choose (writesRows a) left older
-current-rows (refusal number place) left older = refl
-current-rows admitted left older = refl
-current-rows (judged result) left older = refl
-current-rows (tree row) left older = refl
-current-rows (pass count) left older = refl
-current-rows (ran root used) left older = refl
-current-rows (written count) left older = refl
-
 -- the first numbers of a buffer that begins with a list of that length
 first-of : (xs rest : List ℕ) (n : ℕ) → length xs ≡ n → take n (xs ++ rest) ≡ xs
 first-of xs rest n e = take-at xs rest n e
@@ -193,18 +183,11 @@ module _ (label numbers rows words : List ℕ) (d : Desk) (o : InOrder d) where
       rw (t, s)
   chosen-state false xs r l rows₁ words₁ e h = refl
 
-  written-state : (a : Answer) (xs : List ℕ) (r : ℕ) (l : Left) (rows₁ words₁ : List ℕ) → length xs ≡ r → r ≤ kept
-      → stateOf label (deskWithLeft d (choose (writesRows a) (span 0 r) (d .rows)) l) (choose (writesRows a) (overwritten xs numbers) numbers) rows₁ words₁
-      ≡ withLeft before (currentRows a xs (stretch numbers (d .rows))) (leftOf rows₁ words₁ l)
-  written-state a xs r l rows₁ words₁ e h =
-      chosen-state (writesRows a) xs r l rows₁ words₁ e h
-      ∙ ap (λ (current : List ℕ). withLeft before current (leftOf rows₁ words₁ l)) (sym (current-rows a xs (stretch numbers (d .rows))))
-
   -- a question that is refused by 9 at the latest leaves everything but its buffers
   quiet-state : (a : Answer) (xs : List ℕ) (r : ℕ) (l : Left) (rows₁ words₁ current : List ℕ) → writesRows a ≡ false
       → stateOf label (deskWithLeft d (choose (writesRows a) (span 0 r) (d .rows)) l) (choose (writesRows a) (overwritten xs numbers) numbers) rows₁ words₁
       ≡ withLeft before (currentRows a current (stretch numbers (d .rows))) (leftOf rows₁ words₁ l)
-  quiet-state a xs r l rows₁ words₁ current e = rw (current-rows a current (stretch numbers (d .rows)), e)
+  quiet-state a xs r l rows₁ words₁ current e = rw e
 
   -- what is known of the buffers behind a question: they keep their lengths
   abbrev pub Lengths : Question → List ℕ → Type 0
@@ -231,7 +214,7 @@ module _ (label numbers rows words : List ℕ) (d : Desk) (o : InOrder d) where
       let f : (length (k .rows) ≡ 3 * limit) × (length (k .words) ≡ 5 * limit) = rw t at e in
       let most : limit ≤ 512 = limit-in limit t in (
         rw t
-            (written-state (k .answer) (k .rows) (3 * limit) (left.Both (3 * limit) (5 * limit)) (k .rows ++ drop (3 * limit) rows) (k .words ++ drop (5 * limit) words) (f .0) (omega arith)
+            (chosen-state (writesRows (k .answer)) (k .rows) (3 * limit) (left.Both (3 * limit) (5 * limit)) (k .rows ++ drop (3 * limit) rows) (k .words ++ drop (5 * limit) words) (f .0) (omega arith)
             ∙ ap₂ (λ (x y : List ℕ). withLeft before (currentRows (k .answer) (k .rows) (stretch numbers (d .rows))) (meaning.both x y))
             (first-of (k .rows) (drop (3 * limit) rows) (3 * limit) (f .0))
             (first-of (k .words) (drop (5 * limit) words) (5 * limit) (f .1))),
@@ -253,7 +236,7 @@ module _ (label numbers rows words : List ℕ) (d : Desk) (o : InOrder d) where
       let f : (length (k .rows) ≡ 3 * room) × (length (untouched 0) ≡ 0) = rw t at e in
       let most : room ≤ 4096 = ltb-false 4096 room t in (
         rw t
-            (written-state (k .answer) (k .rows) (3 * room) (left.Rows (3 * room)) (k .rows ++ drop (3 * room) rows) words (f .0) (omega arith)
+            (chosen-state (writesRows (k .answer)) (k .rows) (3 * room) (left.Rows (3 * room)) (k .rows ++ drop (3 * room) rows) words (f .0) (omega arith)
             ∙ ap (λ (x : List ℕ). withLeft before (currentRows (k .answer) (k .rows) (stretch numbers (d .rows))) (meaning.rows x))
             (first-of (k .rows) (drop (3 * room) rows) (3 * room) (f .0))),
         rw t,

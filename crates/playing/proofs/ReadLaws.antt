@@ -1,6 +1,7 @@
--- ReadLaws: what is read. A statement that is no fault has as many numbers as its list counts, and they fit the room.
-use mathlib.Core.Path.{_≡_, refl}
-use mathlib.Core.Bool.{Bool, true, false, _&&_}
+-- ReadLaws: what is read. The numbers of a statement that goes on are as many as its list counts and fit the room, and a
+-- label lies within the text.
+use mathlib.Core.Path.{_≡_, refl, sym}
+use mathlib.Core.Bool.{Bool, true, false, true≢false, _&&_}
 use mathlib.Core.List.{List, []}
 use Prim.Native.Nat.{ℕ, zero, suc, _≤_}
 use native.Mathlib.Omega.{arith}
@@ -12,7 +13,9 @@ use Rattle.lexing.specs.Words.{wordOf}
 use Rattle.lexing.specs.declared.words.Word.{Word}
 use Rattle.lexing.specs.declared.words.Word.the-variants as word
 use Rattle.script.specs.Spans.{spanAt, bytesOf, fault, aheadAt, dueAt, Ending, ended, faulty, listing, listingOf, numbersBy, more}
+use Rattle.script.specs.Meaning.{goesOn}
 use Rattle.script.specs.declared.spans.Span.{Span}
+use Rattle.script.specs.declared.spans.Fault.{Fault}
 use Rattle.script.specs.declared.spans.Ahead.{Ahead}
 use Rattle.script.specs.declared.spans.Ahead.the-variants as ahead
 use Rattle.script.specs.declared.spans.Due.{Due}
@@ -20,28 +23,19 @@ use Rattle.script.specs.declared.spans.Due.the-variants as due
 use Rattle.script.specs.declared.spans.Expected.the-variants as expected
 use Rattle.script.specs.declared.statements.Listed.{Listed}
 use Rattle.script.specs.declared.statements.Listed.the-variants as listed
-use Rattle.script.specs.declared.statements.Statement.{Statement}
 use Rattle.script.specs.declared.statements.Statement.the-variants as statement
 use Rattle.script.specs.declared.statements.Reading.{Reading}
 use Rattle.script.proofs.Stretches.{span-least, span-most}
-use Rattle.playing.specs.Desks.{Inside}
 use Rattle.script.specs.Statements.{Read, reading, plain, nameAt, sizeAt, checkAt, writeAt, listAt, runAt, wordAt, statementAt, withNumber, listBy, self}
+use Rattle.playing.specs.declared.desks.Label.{Label}
+use Rattle.playing.specs.Desks.{LabelFits}
+use Rattle.playing.specs.Plays.{countOf, labelAfter}
 
--- the numbers of a list are as many as it counts; no other statement has any, and those before a fault do not matter
-abbrev pub Exact : Statement → List ℕ → Type 0
-Exact statement.End values = values ≡ []
-Exact (statement.Fault f) values = Unit {0}
-Exact (statement.Case s) values = values ≡ []
-Exact (statement.Size z n) values = values ≡ []
-Exact (statement.List l count) values = count ≡ length values
-Exact statement.Admit values = values ≡ []
-Exact (statement.Check limit) values = values ≡ []
-Exact (statement.Write row room) values = values ≡ []
-Exact statement.Show values = values ≡ []
-
-pub record Counted (room : ℕ) (r : Read) : Type 0 where
+-- what is known of a statement, its numbers and the label behind it
+pub record Sound (text : List ℕ) (room : ℕ) (r : Read) : Type 0 where
   pub most : length (r .values) ≤ room
-  pub exact : Exact (r .reading .statement) (r .values)
+  pub exact : goesOn (r .reading .statement) ≡ true → countOf (r .reading .statement) ≡ length (r .values)
+  pub named : (l : Label) → LabelFits l (length text) → LabelFits (labelAfter (r .reading .statement) l) (length text)
 
 -- a list fits its room
 listing-short : (text : List ℕ) (cut : Bool) (room at : ℕ) → length (listing text cut room at .values) ≤ room
@@ -61,131 +55,74 @@ listing-short text cut (suc room) at = go (aheadAt text cut at) (λ next. listin
     go (ahead.Fault f) h = omega arith
 
 module _ (text : List ℕ) (cut : Bool) (room : ℕ) where
-  counted-plain : (r : Reading) → Exact (r .statement) [] → Counted room (plain r)
-  counted-plain r e = record { most = omega arith; exact = e }
+  sound-fault : (f : Fault) (at : ℕ) → Sound text room (plain (reading (statement.Fault f) at))
+  sound-fault f at = record { most = omega arith; exact = λ g. absurd (true≢false (sym g)); named = λ l fit. fit }
 
-  counted-list : (at : ℕ) (l : Listed) → Counted room (listAt text cut room at l)
+  -- a statement with no list and no label
+  sound-plain : (r : Reading) → countOf (r .statement) ≡ 0 → ((l : Label) → labelAfter (r .statement) l ≡ l) → Sound text room (plain r)
+  sound-plain r e f = record { most = omega arith; exact = λ g. e; named = λ l fit. rw (f l) fit }
+
+  sound-list : (at : ℕ) (l : Listed) → Sound text room (listAt text cut room at l)
   unfolding listAt
-  counted-list at l = record { most = listing-short text cut room at; exact = go (listing text cut room at .ending) }
+  sound-list at l = go (listing text cut room at .ending)
     where
-      go : (e : Ending) → Exact (listBy l at (numbersBy (length (listing text cut room at .values)) e) .statement) (listing text cut room at .values)
-      go (ended next) = refl
-      go (faulty f) = tt
+      go : (e : Ending)
+          → Sound text room (record { reading = listBy l at (numbersBy (length (listing text cut room at .values)) e); values = listing text cut room at .values })
+      go (ended next) = record { most = listing-short text cut room at; exact = λ g. refl; named = λ k fit. fit }
+      go (faulty f) = record { most = listing-short text cut room at; exact = λ g. absurd (true≢false (sym g)); named = λ k fit. fit }
 
-  exact-name : (at : ℕ) → Exact (nameAt text cut at .statement) []
+  sound-name : (at : ℕ) → Sound text room (plain (nameAt text cut at))
   unfolding nameAt
-  exact-name at = go (cut && leb (length text) (spanAt text at .end)) (leb (length text) (spanAt text at .start))
+  sound-name at = go (cut && leb (length text) (spanAt text at .end)) (leb (length text) (spanAt text at .start)) refl
     where
-      go : (a b : Bool) → Exact (choose a (reading (statement.Fault (fault (spanAt text at) expected.End)) at)
-          (choose b (reading (statement.Fault (fault (spanAt text at) expected.Name)) at) (reading (statement.Case (spanAt text at)) (spanAt text at .end))) .statement) []
-      go true b = tt
-      go false true = tt
-      go false false = refl
-
-  exact-due : (at : ℕ) (d : Due) (then : ℕ → ℕ → Reading) → ((value next : ℕ) → Exact (then value next .statement) []) → Exact (withNumber self at d then .statement) []
-  exact-due at (due.Number value next) then h = h value next
-  exact-due at (due.Fault f) then h = tt
-
-  counted-run : (at : ℕ) → Counted room (runAt text cut room at)
-  unfolding runAt
-  counted-run at = go (dueAt text cut at)
-    where
-      go : (d : Due) → Counted room (withNumber plain at d (λ rows next. listAt text cut room next (listed.Run rows)))
-      go (due.Number rows next) = counted-list next (listed.Run rows)
-      go (due.Fault f) = counted-plain (reading (statement.Fault f) at) tt
-
-  counted-word : (span : Span) (w : Word) → Counted room (wordAt text cut room span w)
-  unfolding wordAt sizeAt checkAt writeAt
-  counted-word span word.Case = counted-plain (nameAt text cut (span .end)) (exact-name (span .end))
-  counted-word span (word.Size z) = counted-plain (sizeAt text cut (span .end) z) (exact-due (span .end) (dueAt text cut (span .end)) _ (λ value next. refl))
-  counted-word span (word.Table t) = counted-list (span .end) (listed.Table t)
-  counted-word span word.Rows = counted-list (span .end) listed.Rows
-  counted-word span word.Admit = counted-plain (reading statement.Admit (span .end)) refl
-  counted-word span word.Judge = counted-list (span .end) listed.Judge
-  counted-word span word.Check = counted-plain (checkAt text cut (span .end)) (exact-due (span .end) (dueAt text cut (span .end)) _ (λ value next. refl))
-  counted-word span word.Run = counted-run (span .end)
-  counted-word span word.Write =
-      counted-plain (writeAt text cut (span .end))
-      (exact-due (span .end) (dueAt text cut (span .end)) _ (λ row behind. exact-due behind (dueAt text cut behind) _ (λ room next. refl)))
-  counted-word span word.Show = counted-plain (reading statement.Show (span .end)) refl
-  counted-word span word.Unknown = counted-plain (reading (statement.Fault (fault span expected.Statement)) (span .start)) tt
-
-  pub counted : (at : ℕ) → Counted room (statementAt text cut room at)
-  unfolding statementAt
-  counted at = go (cut && leb (length text) (spanAt text at .end)) (leb (length text) (spanAt text at .start))
-    where
-      go : (a b : Bool) → Counted room (choose a (plain (reading (statement.Fault (fault (spanAt text at) expected.End)) at))
-          (choose b (plain (reading statement.End at)) (wordAt text cut room (spanAt text at) (wordOf (bytesOf text (spanAt text at))))))
-      go true b = counted-plain (reading (statement.Fault (fault (spanAt text at) expected.End)) at) tt
-      go false true = counted-plain (reading statement.End at) refl
-      go false false = counted-word (spanAt text at) (wordOf (bytesOf text (spanAt text at)))
-
--- a label lies within the text
-abbrev pub Named : List ℕ → Statement → Type 0
-Named text statement.End = Unit {0}
-Named text (statement.Fault f) = Unit {0}
-Named text (statement.Case s) = Inside 0 (length text) s
-Named text (statement.Size z n) = Unit {0}
-Named text (statement.List l count) = Unit {0}
-Named text statement.Admit = Unit {0}
-Named text (statement.Check limit) = Unit {0}
-Named text (statement.Write row room) = Unit {0}
-Named text statement.Show = Unit {0}
-
-module _ (text : List ℕ) (cut : Bool) (room : ℕ) where
-  named-name : (at : ℕ) → Named text (nameAt text cut at .statement)
-  unfolding nameAt
-  named-name at = go (cut && leb (length text) (spanAt text at .end)) (leb (length text) (spanAt text at .start)) refl
-    where
-      go : (a b : Bool) → leb (length text) (spanAt text at .start) ≡ b → Named text (choose a (reading (statement.Fault (fault (spanAt text at) expected.End)) at)
-          (choose b (reading (statement.Fault (fault (spanAt text at) expected.Name)) at) (reading (statement.Case (spanAt text at)) (spanAt text at .end))) .statement)
-      go true b e = tt
-      go false true e = tt
+      go : (a b : Bool) → leb (length text) (spanAt text at .start) ≡ b → Sound text room (plain (choose a (reading (statement.Fault (fault (spanAt text at) expected.End)) at)
+          (choose b (reading (statement.Fault (fault (spanAt text at) expected.Name)) at) (reading (statement.Case (spanAt text at)) (spanAt text at .end)))))
+      go true b e = sound-fault (fault (spanAt text at) expected.End) at
+      go false true e = sound-fault (fault (spanAt text at) expected.Name) at
       go false false e =
           let h : spanAt text at .start ≤ length text = omega (arith, leb-false (length text) (spanAt text at .start) e) in
-          record { from = omega arith; ordered = span-least text at (spanAt text at) refl; upTo = span-most text at (spanAt text at) refl h }
+          record {
+            most = omega arith;
+            exact = λ g. refl;
+            named = λ l fit. record { from = omega arith; ordered = span-least text at (spanAt text at) refl; upTo = span-most text at (spanAt text at) refl h };
+          }
 
-  named-due : (at : ℕ) (d : Due) (then : ℕ → ℕ → Reading) → ((value next : ℕ) → Named text (then value next .statement)) → Named text (withNumber self at d then .statement)
-  named-due at (due.Number value next) then h = h value next
-  named-due at (due.Fault f) then h = tt
+  sound-due : (at : ℕ) (d : Due) (then : ℕ → ℕ → Reading) → ((value next : ℕ) → Sound text room (plain (then value next))) → Sound text room (plain (withNumber self at d then))
+  sound-due at (due.Number value next) then h = h value next
+  sound-due at (due.Fault f) then h = sound-fault f at
 
-  named-list : (at : ℕ) (l : Listed) → Named text (listAt text cut room at l .reading .statement)
-  unfolding listAt
-  named-list at l = go (listing text cut room at .ending)
-    where
-      go : (e : Ending) → Named text (listBy l at (numbersBy (length (listing text cut room at .values)) e) .statement)
-      go (ended next) = tt
-      go (faulty f) = tt
-
-  named-run : (at : ℕ) → Named text (runAt text cut room at .reading .statement)
+  sound-run : (at : ℕ) → Sound text room (runAt text cut room at)
   unfolding runAt
-  named-run at = go (dueAt text cut at)
+  sound-run at = go (dueAt text cut at)
     where
-      go : (d : Due) → Named text (withNumber plain at d (λ rows next. listAt text cut room next (listed.Run rows)) .reading .statement)
-      go (due.Number rows next) = named-list next (listed.Run rows)
-      go (due.Fault f) = tt
+      go : (d : Due) → Sound text room (withNumber plain at d (λ rows next. listAt text cut room next (listed.Run rows)))
+      go (due.Number rows next) = sound-list next (listed.Run rows)
+      go (due.Fault f) = sound-fault f at
 
-  named-word : (span : Span) (w : Word) → Named text (wordAt text cut room span w .reading .statement)
+  sound-word : (span : Span) (w : Word) → Sound text room (wordAt text cut room span w)
   unfolding wordAt sizeAt checkAt writeAt
-  named-word span word.Case = named-name (span .end)
-  named-word span (word.Size z) = named-due (span .end) (dueAt text cut (span .end)) _ (λ value next. tt)
-  named-word span (word.Table t) = named-list (span .end) (listed.Table t)
-  named-word span word.Rows = named-list (span .end) listed.Rows
-  named-word span word.Admit = tt
-  named-word span word.Judge = named-list (span .end) listed.Judge
-  named-word span word.Check = named-due (span .end) (dueAt text cut (span .end)) _ (λ value next. tt)
-  named-word span word.Run = named-run (span .end)
-  named-word span word.Write =
-      named-due (span .end) (dueAt text cut (span .end)) _ (λ row behind. named-due behind (dueAt text cut behind) _ (λ room next. tt))
-  named-word span word.Show = tt
-  named-word span word.Unknown = tt
+  sound-word span word.Case = sound-name (span .end)
+  sound-word span (word.Size z) =
+      sound-due (span .end) (dueAt text cut (span .end)) _ (λ value next. sound-plain (reading (statement.Size z value) next) refl (λ l. refl))
+  sound-word span (word.Table t) = sound-list (span .end) (listed.Table t)
+  sound-word span word.Rows = sound-list (span .end) listed.Rows
+  sound-word span word.Admit = sound-plain (reading statement.Admit (span .end)) refl (λ l. refl)
+  sound-word span word.Judge = sound-list (span .end) listed.Judge
+  sound-word span word.Check =
+      sound-due (span .end) (dueAt text cut (span .end)) _ (λ limit next. sound-plain (reading (statement.Check limit) next) refl (λ l. refl))
+  sound-word span word.Run = sound-run (span .end)
+  sound-word span word.Write =
+      sound-due (span .end) (dueAt text cut (span .end)) _
+      (λ row behind. sound-due behind (dueAt text cut behind) _ (λ size next. sound-plain (reading (statement.Write row size) next) refl (λ l. refl)))
+  sound-word span word.Show = sound-plain (reading statement.Show (span .end)) refl (λ l. refl)
+  sound-word span word.Unknown = sound-fault (fault span expected.Statement) (span .start)
 
-  pub named : (at : ℕ) → Named text (statementAt text cut room at .reading .statement)
+  pub sound : (at : ℕ) → Sound text room (statementAt text cut room at)
   unfolding statementAt
-  named at = go (cut && leb (length text) (spanAt text at .end)) (leb (length text) (spanAt text at .start))
+  sound at = go (cut && leb (length text) (spanAt text at .end)) (leb (length text) (spanAt text at .start))
     where
-      go : (a b : Bool) → Named text (choose a (plain (reading (statement.Fault (fault (spanAt text at) expected.End)) at))
-          (choose b (plain (reading statement.End at)) (wordAt text cut room (spanAt text at) (wordOf (bytesOf text (spanAt text at))))) .reading .statement)
-      go true b = tt
-      go false true = tt
-      go false false = named-word (spanAt text at) (wordOf (bytesOf text (spanAt text at)))
+      go : (a b : Bool) → Sound text room (choose a (plain (reading (statement.Fault (fault (spanAt text at) expected.End)) at))
+          (choose b (plain (reading statement.End at)) (wordAt text cut room (spanAt text at) (wordOf (bytesOf text (spanAt text at))))))
+      go true b = sound-fault (fault (spanAt text at) expected.End) at
+      go false true = sound-plain (reading statement.End at) refl (λ l. refl)
+      go false false = sound-word (spanAt text at) (wordOf (bytesOf text (spanAt text at)))

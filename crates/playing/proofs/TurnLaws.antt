@@ -15,7 +15,7 @@ use Rattle.printing.specs.Decimals.{decimal}
 use Rattle.script.specs.Phrases as phrases
 use Rattle.script.specs.Spans.{bytesOf, overwritten}
 use Rattle.script.specs.Statements.{Read, statementAt}
-use Rattle.script.specs.Meaning.{State, Step, step, playStep, played, mostNumbers, mostShown, mostBytes, tokenText, standingText, foundText, expectedText, faultLine}
+use Rattle.script.specs.Meaning.{State, Step, step, goesOn, stopText, playStep, played, mostNumbers, mostShown, mostBytes, tokenText, standingText, foundText, expectedText, faultLine}
 use Rattle.script.specs.declared.spans.Span.{Span}
 use Rattle.script.specs.declared.spans.Fault.{Fault}
 use Rattle.script.specs.declared.spans.Expected.{Expected}
@@ -30,10 +30,10 @@ use Rattle.playing.specs.declared.statements.Done.{Done}
 use Rattle.playing.specs.Desks.{kept, stretch, span, labelOf, stateOf, LabelFits, InOrder}
 use Rattle.playing.specs.Printed.{printedText, PrintedFits}
 use Rattle.playing.specs.Plays.{Plays, done, countOf, labelAfter}
-use Rattle.playing.specs.Turns.{goesOn, stopText, Turns}
+use Rattle.playing.specs.Turns.{Turns}
 use Rattle.playing.proofs.StateLaws.{state-agrees}
 use Rattle.playing.proofs.LineLaws.{decimal-short}
-use Rattle.playing.proofs.ReadLaws.{Exact, counted, Named, named}
+use Rattle.playing.proofs.ReadLaws.{sound}
 
 -- a part behind a place, lent and given back
 pub part-whole : (numbers : List ℕ) (used : ℕ) → take (length numbers - used) (drop used numbers) ≡ drop used numbers
@@ -90,26 +90,6 @@ fault-short text f =
     simp length-append
     (omega (arith, decimal-short (suc (newlines (take (f .span .start) text))), found-short text (f .span) (f .expected), expected-short (f .expected)))
 
--- what is printed at a statement: its step and what follows, or where the script stops
-play-split : (text : List ℕ) (cut : Bool) (next : State → ℕ → List ℕ) (state : State) (r : Read)
-    → playStep text cut next state r
-    ≡ choose (goesOn (r .reading .statement))
-    (step state text (r .reading .statement) (r .values) .printed ++ next (step state text (r .reading .statement) (r .values) .state) (r .reading .next))
-    (stopText text (r .reading .statement))
-play-split text cut next state r = go (r .reading .statement)
-  where
-    go : (st : Statement) → playStep text cut next state (record { reading = record { statement = st; next = r .reading .next }; values = r .values })
-        ≡ choose (goesOn st) (step state text st (r .values) .printed ++ next (step state text st (r .values) .state) (r .reading .next)) (stopText text st)
-    go statement.End = refl
-    go (statement.Fault f) = refl
-    go (statement.Case s) = refl
-    go (statement.Size z n) = refl
-    go (statement.List l count) = refl
-    go statement.Admit = refl
-    go (statement.Check limit) = refl
-    go (statement.Write row room) = refl
-    go statement.Show = refl
-
 -- the numbers behind a reading: those used are as they were, and the list's numbers come next
 module _ (numbers values : List ℕ) (used : ℕ) (h : used ≤ length numbers) where
   abbrev read : List ℕ
@@ -126,30 +106,6 @@ module _ (numbers values : List ℕ) (used : ℕ) (h : used ≤ length numbers) 
       let n : used + count - used ≡ length values = omega arith in
       ap (λ (l : List ℕ). take (used + count - used) l) (drop-at (take used numbers) (overwritten values (drop used numbers)) used used-long)
       ∙ take-at values (drop (length values) (drop used numbers)) (used + count - used) (sym n)
-
--- the count of a statement that goes on
-count-exact : (st : Statement) (values : List ℕ) → goesOn st ≡ true → Exact st values → countOf st ≡ length values
-count-exact statement.End values g e = absurd (true≢false (sym g))
-count-exact (statement.Fault f) values g e = absurd (true≢false (sym g))
-count-exact (statement.Case s) values g e = ap length (sym e)
-count-exact (statement.Size z n) values g e = ap length (sym e)
-count-exact (statement.List l count) values g e = e
-count-exact statement.Admit values g e = ap length (sym e)
-count-exact (statement.Check limit) values g e = ap length (sym e)
-count-exact (statement.Write row room) values g e = ap length (sym e)
-count-exact statement.Show values g e = ap length (sym e)
-
--- a label that is read lies within the text
-label-fits : (text : List ℕ) (st : Statement) (l : Label) → Named text st → LabelFits l (length text) → LabelFits (labelAfter st l) (length text)
-label-fits text statement.End l n fit = fit
-label-fits text (statement.Fault f) l n fit = fit
-label-fits text (statement.Case s) l n fit = n
-label-fits text (statement.Size z v) l n fit = fit
-label-fits text (statement.List k count) l n fit = fit
-label-fits text statement.Admit l n fit = fit
-label-fits text (statement.Check limit) l n fit = fit
-label-fits text (statement.Write row room) l n fit = fit
-label-fits text statement.Show l n fit = fit
 
 -- a turn, by what is read and what is done with it
 module _ (text : List ℕ) (cut : Bool) (at : ℕ) (label : Label) (d : Desk) (o : InOrder d) (numbers rows words : List ℕ) (full : length numbers ≡ kept + mostNumbers) where
@@ -174,12 +130,12 @@ module _ (text : List ℕ) (cut : Bool) (at : ℕ) (label : Label) (d : Desk) (o
     counts : goesOn (r .statement) ≡ true → countOf (r .statement) ≡ length (found .values)
     counts g =
         ap (λ (x : Reading). countOf (x .statement)) er
-        ∙ count-exact (found .reading .statement) (found .values) (ap (λ (x : Reading). goesOn (x .statement)) (sym er) ∙ g) (counted text cut (length numbers - d .used) at .exact)
+        ∙ sound text cut (length numbers - d .used) at .exact (ap (λ (x : Reading). goesOn (x .statement)) (sym er) ∙ g)
 
     pub count-fits : goesOn (r .statement) ≡ true → length numbers₁ ≡ length numbers → d .used + countOf (r .statement) ≤ length numbers₁
     count-fits g l =
         let c : countOf (r .statement) ≡ length (found .values) = counts g in
-        let m : length (found .values) ≤ length numbers - d .used = counted text cut (length numbers - d .used) at .most in
+        let m : length (found .values) ≤ length numbers - d .used = sound text cut (length numbers - d .used) at .most in
         let w : d .used ≤ length numbers = within in
         omega arith
 
@@ -211,14 +167,13 @@ module _ (text : List ℕ) (cut : Bool) (at : ℕ) (label : Label) (d : Desk) (o
           plays =
               λ n.
               unfolds n
-              ∙ play-split text cut (played text cut n) before found
               ∙ ap (λ (b : Bool). choose b (s .printed ++ played text cut n (s .state) (found .reading .next)) (stopText text (found .reading .statement))) g₁
               ∙ ap₂ (λ (l : List ℕ) (a : State). l ++ played text cut n a (found .reading .next)) (sym (q .text)) (sym (q .state))
               ∙ ap (λ (y : Reading). printedText (labelOf text label) out₂ (x .printed) ++ played text cut n (stateOf (labelOf text (x .label)) (x .desk) numbers₂ rows₂ words₂) (y .next)) (sym er);
           order = q .order;
           labelled =
               rw (el, ap (λ (y : Reading). y .statement) er)
-              (label-fits text (found .reading .statement) label (named text cut (length numbers - d .used) at) fit);
+              (sound text cut (length numbers - d .used) at .named label fit);
           fits = q .fits;
         }
 
@@ -233,7 +188,6 @@ module _ (text : List ℕ) (cut : Bool) (at : ℕ) (label : Label) (d : Desk) (o
           plays =
               λ n.
               unfolds n
-              ∙ play-split text cut (played text cut n) before found
               ∙ ap (λ (b : Bool). choose b (s .printed ++ played text cut n (s .state) (found .reading .next)) (stopText text (found .reading .statement))) g₁
               ∙ ap (λ (y : Reading). stopText text (y .statement)) (sym er)
               ∙ sym (shown (labelOf text label))

@@ -1,13 +1,9 @@
 -- Printed: the lines of a statement, which stand in an output buffer without their label.
-use mathlib.Core.List.{List, [], _∷_, _++_}
+use mathlib.Core.List.{List, [], _++_}
 use Prim.Native.Nat.{ℕ, _-_, _≤_}
 use lib.ListN.{take, drop}
 use Rattle.playing.specs.declared.showing.Printed.{Printed}
 use Rattle.playing.specs.declared.showing.Printed.the-variants as printed
-
--- a line behind its label: a space, the text and a line feed
-abbrev pub line : List ℕ → List ℕ
-line text = 32 ∷ (text ++ (10 ∷ []))
 
 -- what is printed of the first bytes of the output buffer
 abbrev pub printedText : (label out : List ℕ) → Printed → List ℕ

@@ -1,19 +1,19 @@
 -- Questions: the questions of a script about its contract, with what is lent to them and what they leave. A limit or a room
 -- that is refused whatever is lent gets a shorter buffer, and what it would have left is known to be sevens.
-use mathlib.Core.Bool.{Bool, true, false, _||_, _&&_}
+use mathlib.Core.Bool.{Bool, false, _||_}
 use mathlib.Core.Path.{_≡_}
 use mathlib.Core.List.{List, _++_}
 use Prim.Native.Nat.{ℕ, _*_, _≤_}
-use lib.Dec.{ltb, leb, eqb}
+use lib.Dec.{ltb}
 use lib.ListN.{length, drop}
 use Rattle.foundation.specs.Tests.{choose}
 use Rattle.model.specs.Tables.{Contract}
-use Rattle.model.specs.Answers.{Answer, admitted, judged, tree, pass, ran, written, refusal}
+use Rattle.model.specs.Answers.{Answer}
 use Rattle.model.specs.Admission.{admit}
 use Rattle.model.specs.Judging.{judging}
 use Rattle.model.specs.Checking.{checking}
 use Rattle.model.specs.Running.{running}
-use Rattle.script.specs.Meaning.{State, contractOf, Step, untouched, answering, judgeStep, checkStep, runStep}
+use Rattle.script.specs.Meaning.{State, Step, writesRows, admitStep, judgeStep, checkStep, runStep}
 use Rattle.playing.specs.declared.desks.Left.{Left}
 use Rattle.playing.specs.declared.desks.Left.the-variants as left
 use Rattle.playing.specs.declared.desks.Desk.{Desk}
@@ -40,10 +40,10 @@ asked C (question.Run room) numbers rows words =
 
 -- the step of a script that asks a question
 abbrev pub questionStep : State → Question → List ℕ → Step
-questionStep state question.Admit values = answering state (admit (contractOf state)) state
-questionStep state question.Judge values = judgeStep state (judging (contractOf state) values (untouched 5))
-questionStep state (question.Check limit) values = checkStep state (checking (contractOf state) limit (untouched (3 * limit)) (untouched (5 * limit)))
-questionStep state (question.Run room) values = runStep state (running (contractOf state) values (untouched (3 * room)))
+questionStep state question.Admit values = admitStep state
+questionStep state question.Judge values = judgeStep state values
+questionStep state (question.Check limit) values = checkStep state limit
+questionStep state (question.Run room) values = runStep state room values
 
 -- the limit is out of range, or the room is above the most
 abbrev pub limitOut : ℕ → Bool
@@ -74,16 +74,7 @@ Small question.Judge = Unit {0}
 Small (question.Check limit) = limit ≤ 65535
 Small (question.Run room) = room ≤ 65535
 
--- whether an answer comes with a row buffer that is written, and whether that becomes the current row table
-abbrev pub writesRows : Answer → Bool
-writesRows (refusal number place) = eqb number 10 || (leb 13 number && leb number 15)
-writesRows admitted = true
-writesRows (judged result) = true
-writesRows (tree row) = true
-writesRows (pass count) = true
-writesRows (ran root used) = true
-writesRows (written count) = true
-
+-- whether what a question wrote becomes the current row table
 abbrev pub setsRows : Question → Answer → Bool
 setsRows question.Admit answer = false
 setsRows question.Judge answer = false

@@ -5,37 +5,11 @@ use mathlib.Core.List.{List, [], _++_}
 use Prim.Native.Nat.{ℕ, suc}
 use lib.ListN.{length}
 use Rattle.foundation.specs.Tests.{choose}
-use Rattle.script.specs.Meaning.{State, faultLine, played}
-use Rattle.script.specs.declared.statements.Statement.{Statement}
-use Rattle.script.specs.declared.statements.Statement.the-variants as statement
+use Rattle.script.specs.Meaning.{State, played}
 use Rattle.playing.specs.declared.desks.Label.{Label}
 use Rattle.playing.specs.declared.turns.Turn.{Turn}
 use Rattle.playing.specs.Desks.{labelOf, stateOf, LabelFits, InOrder}
 use Rattle.playing.specs.Printed.{printedText, PrintedFits}
-
--- a script stops at its end and at a fault
-abbrev pub goesOn : Statement → Bool
-goesOn statement.End = false
-goesOn (statement.Fault f) = false
-goesOn (statement.Case s) = true
-goesOn (statement.Size z n) = true
-goesOn (statement.List l count) = true
-goesOn statement.Admit = true
-goesOn (statement.Check limit) = true
-goesOn (statement.Write row room) = true
-goesOn statement.Show = true
-
--- what it then prints
-abbrev pub stopText : List ℕ → Statement → List ℕ
-stopText text statement.End = []
-stopText text (statement.Fault f) = faultLine text f
-stopText text (statement.Case s) = []
-stopText text (statement.Size z n) = []
-stopText text (statement.List l count) = []
-stopText text statement.Admit = []
-stopText text (statement.Check limit) = []
-stopText text (statement.Write row room) = []
-stopText text statement.Show = []
 
 -- what is printed from a place on is what the turn prints and, where the script goes on, what is printed from the next place
 -- on, by the state that the turn leaves

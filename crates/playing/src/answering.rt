@@ -14,7 +14,7 @@ use crate::questions::Question;
 use crate::questions::left_after;
 use crate::questions::lent_to;
 use crate::showing::Printed;
-use crate::whole_lines::answer_line;
+use lines::appending::append_answer_line;
 use script::spans::Span;
 
 // Behind a question: the desk, and what is printed.
@@ -40,7 +40,7 @@ pub fn answer(
 {
     let lent = lent_to(question);
     let given = ask_lent(desk, question, lent, end, numbers, rows, words);
-    let place = answer_line(out, given);
+    let place = append_answer_line(out, 0, given);
     let older = desk.left;
     let left = left_after(question, older);
     if sets_rows(question, given) {

@@ -3,14 +3,11 @@ ghost use mathlib.Core.Path.{_≡_};
 ghost use mathlib.Core.List.{_++_};
 ghost use lib.ListN.{length};
 ghost use lib.Seq.{sets};
-ghost use Rattle.answers.specs.Numbers.{numbered, writingAnswer};
+ghost use Rattle.answers.specs.Numbers.{writingAnswer};
 ghost use Rattle.printing.specs.Appending.{placeAfter};
-ghost use Rattle.script.specs.Meaning.{spaced, answerText, writtenText, untouched};
+ghost use Rattle.script.specs.Meaning.{line, spaced, writtenText, untouched};
 ghost use Rattle.script.specs.Phrases as phrases;
-ghost use Rattle.playing.specs.Printed.{line};
 use answers::WritingAnswer;
-use answers::numbered::Answer;
-use lines::appending::append_answer;
 use lines::appending::append_writing;
 use lines::lists::append_behind_space;
 use lines::lists::append_rows;
@@ -18,16 +15,6 @@ use lines::lists::append_words;
 use printing::appending::append;
 use printing::appending::append_byte;
 use printing::appending::clipped;
-
-// An answer.
-pub fn answer_line(out: &mut [u8], answer: Answer) -> usize
-    ensures { λ r. ⌜ r ≡ placeAfter (now (out .entry)) 0 (length (line (answerText (numbered answer)))) ⌝ }
-    ensures { λ _. ⌜ now (out .exit) ≡ sets (now (out .entry)) 0 (line (answerText (numbered answer))) ⌝ }
-{
-    let start = append_byte(out, 0, 32);
-    let end = append_answer(out, start, answer);
-    append_byte(out, end, 10)
-}
 
 // The answer of writing out, with the numbers written.
 pub fn writing_line(out: &mut [u8], answer: WritingAnswer, numbers: &[u16]) -> usize

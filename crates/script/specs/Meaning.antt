@@ -1,5 +1,5 @@
 -- Meaning: what a script prints. Its statements are taken one after another; each changes the state and prints its lines.
-use mathlib.Core.Bool.{Bool, _&&_, _||_, not}
+use mathlib.Core.Bool.{Bool, true, false, _&&_, _||_, not}
 use mathlib.Core.List.{List, [], _∷_, _++_}
 use Prim.Native.Nat.{ℕ, zero, suc, _+_, _*_, _-_}
 use lib.Dec.{eqb, leb, ltb}
@@ -106,9 +106,12 @@ unfoldable pub spaced : List ℕ → List ℕ
 spaced [] = []
 spaced (n ∷ rest) = 32 ∷ (decimal n ++ spaced rest)
 
--- a line with its label
+-- a line behind its label: a space, the text and a line feed
+abbrev pub line : List ℕ → List ℕ
+line text = 32 ∷ (text ++ (10 ∷ []))
+
 abbrev pub labelled : State → List ℕ → List ℕ
-labelled state text = state .label ++ (32 ∷ text) ++ (10 ∷ [])
+labelled state text = state .label ++ line text
 
 abbrev pub answerText : Answer → List ℕ
 answerText admitted = phrases.admitted
@@ -141,16 +144,19 @@ leftLines state (both r w) = labelled state (phrases.rows ++ spaced r) ++ labell
 abbrev pub untouched : ℕ → List ℕ
 untouched n = replicate n 7
 
--- the current rows are what a question left in its row buffer, unless it was refused without writing there: refusals
--- 10, 13, 14 and 15 write zeros
+-- whether a question wrote its row buffer: refusals 10, 13, 14 and 15 write zeros there, and other refusals nothing
+abbrev pub writesRows : Answer → Bool
+writesRows (refusal number place) = eqb number 10 || (leb 13 number && leb number 15)
+writesRows admitted = true
+writesRows (judged result) = true
+writesRows (tree row) = true
+writesRows (pass count) = true
+writesRows (ran root used) = true
+writesRows (written count) = true
+
+-- the current rows are then what it left there
 abbrev pub currentRows : Answer → (left older : List ℕ) → List ℕ
-currentRows (refusal number place) left older = choose (eqb number 10 || (leb 13 number && leb number 15)) left older
-currentRows admitted left older = left
-currentRows (judged result) left older = left
-currentRows (tree row) left older = left
-currentRows (pass count) left older = left
-currentRows (ran root used) left older = left
-currentRows (written count) left older = left
+currentRows answer left older = choose (writesRows answer) left older
 
 -- a step: the state behind it, and what it prints
 pub record Step : Type 0 where
@@ -165,14 +171,24 @@ abbrev pub answering : State → Answer → State → Step
 answering state answer next = record { state = next; printed = labelled state (answerText answer) }
 
 module _ (state : State) where
-  abbrev pub judgeStep : Judged → Step
-  judgeStep j = answering state (j .answer) (withLeft state (state .rows) (words (j .words)))
+  -- the questions about the contract
+  abbrev pub admitStep : Step
+  admitStep = answering state (admit (contractOf state)) state
 
-  abbrev pub checkStep : Checked → Step
-  checkStep k = answering state (k .answer) (withLeft state (currentRows (k .answer) (k .rows) (state .rows)) (both (k .rows) (k .words)))
+  abbrev pub judgeStep : (numbers : List ℕ) → Step
+  judgeStep numbers =
+      let j : Judged = judging (contractOf state) numbers (untouched 5) in
+      answering state (j .answer) (withLeft state (state .rows) (words (j .words)))
 
-  abbrev pub runStep : Ran → Step
-  runStep r = answering state (r .answer) (withLeft state (currentRows (r .answer) (r .rows) (state .rows)) (rows (r .rows)))
+  abbrev pub checkStep : (limit : ℕ) → Step
+  checkStep limit =
+      let k : Checked = checking (contractOf state) limit (untouched (3 * limit)) (untouched (5 * limit)) in
+      answering state (k .answer) (withLeft state (currentRows (k .answer) (k .rows) (state .rows)) (both (k .rows) (k .words)))
+
+  abbrev pub runStep : (room : ℕ) (numbers : List ℕ) → Step
+  runStep room numbers =
+      let r : Ran = running (contractOf state) numbers (untouched (3 * room)) in
+      answering state (r .answer) (withLeft state (currentRows (r .answer) (r .rows) (state .rows)) (rows (r .rows)))
 
   -- a statement with the numbers of its list; `text` is where a label stands
   unfoldable pub step : (text : List ℕ) → Statement → List ℕ → Step
@@ -182,10 +198,10 @@ module _ (state : State) where
   step text (statement.Size z n) values = quiet (withSize state z n)
   step text (statement.List (listed.Table t) count) values = quiet (withTable state t values)
   step text (statement.List listed.Rows count) values = quiet (withRows state values)
-  step text (statement.List listed.Judge count) values = judgeStep (judging (contractOf state) values (untouched 5))
-  step text (statement.List (listed.Run r) count) values = runStep (running (contractOf state) values (untouched (3 * r)))
-  step text statement.Admit values = answering state (admit (contractOf state)) state
-  step text (statement.Check limit) values = checkStep (checking (contractOf state) limit (untouched (3 * limit)) (untouched (5 * limit)))
+  step text (statement.List listed.Judge count) values = judgeStep values
+  step text (statement.List (listed.Run r) count) values = runStep r values
+  step text statement.Admit values = admitStep
+  step text (statement.Check limit) values = checkStep limit
   step text (statement.Write row room) values = record { state = state; printed = labelled state (writtenText (writingOut (state .rows) row (untouched room))) }
   step text statement.Show values = record { state = state; printed = leftLines state (state .left) }
 
@@ -218,23 +234,36 @@ faultLine text f =
     phrases.lineOf ++ decimal (suc (newlines (take (f .span .start) text))) ++ phrases.foundText ++ foundText text f ++ phrases.expectedText
     ++ expectedText (f .expected) ++ (10 ∷ [])
 
+-- a script stops at its end and at a fault
+abbrev pub goesOn : Statement → Bool
+goesOn statement.End = false
+goesOn (statement.Fault f) = false
+goesOn (statement.Case span) = true
+goesOn (statement.Size z n) = true
+goesOn (statement.List l count) = true
+goesOn statement.Admit = true
+goesOn (statement.Check limit) = true
+goesOn (statement.Write row room) = true
+goesOn statement.Show = true
+
+-- what it then prints
+abbrev pub stopText : List ℕ → Statement → List ℕ
+stopText text statement.End = []
+stopText text (statement.Fault f) = faultLine text f
+stopText text (statement.Case span) = []
+stopText text (statement.Size z n) = []
+stopText text (statement.List l count) = []
+stopText text statement.Admit = []
+stopText text (statement.Check limit) = []
+stopText text (statement.Write row room) = []
+stopText text statement.Show = []
+
 module _ (text : List ℕ) (cut : Bool) where
-  -- `next` is what is printed from the state and the place behind the statement on; a fault ends the script
+  -- `next` is what is printed from the state and the place behind the statement on
   abbrev pub playStep : (State → ℕ → List ℕ) → State → Read → List ℕ
-  playStep next state r = elim (r .reading .statement) [
-    | statement.End ↦ []
-    | statement.Fault f ↦ faultLine text f
-    | statement.Case span ↦ proceed
-    | statement.Size s n ↦ proceed
-    | statement.List l count ↦ proceed
-    | statement.Admit ↦ proceed
-    | statement.Check limit ↦ proceed
-    | statement.Write row room ↦ proceed
-    | statement.Show ↦ proceed
-  ]
-    where
-      proceed : List ℕ
-      proceed = let s : Step = step state text (r .reading .statement) (r .values) in s .printed ++ next (s .state) (r .reading .next)
+  playStep next state r =
+      let s : Step = step state text (r .reading .statement) (r .values) in
+      choose (goesOn (r .reading .statement)) (s .printed ++ next (s .state) (r .reading .next)) (stopText text (r .reading .statement))
 
   -- what is printed from a place on, of at most so many statements
   unfoldable pub played : ℕ → State → ℕ → List ℕ

@@ -1,25 +1,17 @@
 -- Lines: the text of the worked cases, "case, answer, numbers". Document 01's definitions give the answers.
 use mathlib.Core.List.{List, [], _∷_, _++_}
 use Prim.Native.Nat.{ℕ}
-use Rattle.model.specs.Tables.{Contract, contract}
+use Rattle.model.specs.Tables.{Contract}
 use Rattle.model.specs.Answers.{Answer}
+use Rattle.script.specs.Meaning as script
 use Rattle.script.specs.Meaning.{answerText}
 use Rattle.worked_table.specs.Questions as questions
 use Rattle.worked_table.specs.Questions.{Question, ask}
-use Rattle.worked_table.specs.Contracts.{C1, C2, C3}
+use Rattle.worked_table.specs.Contracts.{bothAccepted, C1, C2, C3}
 
--- "types of C1"
-abbrev pub typed : (counts outputMarks nodes rules : List ℕ) → Contract
-typed counts outputMarks nodes rules =
-    contract 2 1 2 counts (0 ∷ 0 ∷ 0 ∷ 0 ∷ 0 ∷ 1 ∷ 0 ∷ 0 ∷ []) (1 ∷ []) (0 ∷ 1 ∷ 1 ∷ 1 ∷ 1 ∷ []) outputMarks nodes rules
-
--- "Output marks are 1, 1 unless given."
-abbrev pub bothAccepted : List ℕ
-bothAccepted = 1 ∷ 1 ∷ []
-
--- a name, a space, an answer and a line feed
+-- the line of an answer, behind a name
 abbrev pub answerLine : List ℕ → Answer → List ℕ
-answerLine name answer = name ++ (32 ∷ []) ++ answerText answer ++ (10 ∷ [])
+answerLine name answer = name ++ script.line (answerText answer)
 
 unfoldable pub line : List ℕ → Contract → Question → List ℕ
 line name C question = answerLine name (ask C question .answer)

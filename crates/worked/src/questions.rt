@@ -5,7 +5,7 @@ ghost use lib.ListN.{replicate};
 ghost use Rattle.answers.specs.Numbers.{numbered};
 ghost use Rattle.worked_table.specs.Questions as questions;
 ghost use Rattle.worked_table.specs.Questions.{ask};
-ghost use Rattle.worked.specs.Lines.{typed};
+ghost use Rattle.worked_table.specs.Contracts.{typed};
 use answers::numbered::Answer;
 use answers::numbered::of_checking;
 use answers::numbered::of_judging;

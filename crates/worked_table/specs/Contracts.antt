@@ -3,11 +3,20 @@ use mathlib.Core.List.{List, [], _∷_}
 use Prim.Native.Nat.{ℕ}
 use Rattle.model.specs.Tables.{Contract, contract}
 
+-- "types of C1", with counts, output marks, nodes and rules
+abbrev pub typed : (counts outputMarks nodes rules : List ℕ) → Contract
+typed counts outputMarks nodes rules =
+    contract 2 1 2 counts (0 ∷ 0 ∷ 0 ∷ 0 ∷ 0 ∷ 1 ∷ 0 ∷ 0 ∷ []) (1 ∷ []) (0 ∷ 1 ∷ 1 ∷ 1 ∷ 1 ∷ []) outputMarks nodes rules
+
+-- "Output marks are 1, 1 unless given."
+abbrev pub bothAccepted : List ℕ
+bothAccepted = 1 ∷ 1 ∷ []
+
 -- "C1: S = 2, I = 1, O = 2, one procedure. Input rows (0,0,0,0), (0,1,0,0), mark 1. Output table 0,1,1,1,1. The procedure
 -- copies: 0 to 0, 1 to 1 of itself on both children.", with the output marks given
 abbrev pub C1 : List ℕ → Contract
 C1 marks =
-    contract 2 1 2 (0 ∷ []) (0 ∷ 0 ∷ 0 ∷ 0 ∷ 0 ∷ 1 ∷ 0 ∷ 0 ∷ []) (1 ∷ []) (0 ∷ 1 ∷ 1 ∷ 1 ∷ 1 ∷ []) marks
+    typed (0 ∷ []) marks
     -- 0: symbol 0; 1: call 0 left; 2: call 0 right; 3: 1(node 1, node 2)
     (1 ∷ 0 ∷ 0 ∷ 0 ∷ 0 ∷ 2 ∷ 0 ∷ 1 ∷ 0 ∷ 0 ∷ 2 ∷ 0 ∷ 2 ∷ 0 ∷ 0 ∷ 1 ∷ 1 ∷ 0 ∷ 1 ∷ 2 ∷ [])
     (0 ∷ 0 ∷ 0 ∷ 0 ∷ 1 ∷ 3 ∷ [])
@@ -16,7 +25,7 @@ C1 marks =
 -- gives its parameter on 0, and on 1 calls itself on the right child with 1(0, parameter)."
 abbrev pub C2 : Contract
 C2 =
-    contract 2 1 2 (0 ∷ 1 ∷ []) (0 ∷ 0 ∷ 0 ∷ 0 ∷ 0 ∷ 1 ∷ 0 ∷ 0 ∷ []) (1 ∷ []) (0 ∷ 1 ∷ 1 ∷ 1 ∷ 1 ∷ []) (1 ∷ 1 ∷ [])
+    typed (0 ∷ 1 ∷ []) bothAccepted
     -- 0: symbol 0; 1: call 1 right (node 0); 2: parameter 1; 3: 1(node 0, node 2); 4: call 1 right (node 3)
     (1 ∷ 0 ∷ 0 ∷ 0 ∷ 0 ∷ 2 ∷ 1 ∷ 2 ∷ 0 ∷ 0 ∷ 0 ∷ 1 ∷ 0 ∷ 0 ∷ 0 ∷ 1 ∷ 1 ∷ 0 ∷ 0 ∷ 2 ∷ 2 ∷ 1 ∷ 2 ∷ 3 ∷ 0 ∷ [])
     (0 ∷ 0 ∷ 0 ∷ 0 ∷ 1 ∷ 1 ∷ 1 ∷ 0 ∷ 2 ∷ 1 ∷ 1 ∷ 4 ∷ [])
@@ -25,7 +34,7 @@ C2 =
 -- procedure 1 gives 0 on 0; no other rule."
 abbrev pub C3 : List ℕ → Contract
 C3 marks =
-    contract 2 1 2 (0 ∷ 1 ∷ 0 ∷ []) (0 ∷ 0 ∷ 0 ∷ 0 ∷ 0 ∷ 1 ∷ 0 ∷ 0 ∷ []) (1 ∷ []) (0 ∷ 1 ∷ 1 ∷ 1 ∷ 1 ∷ []) marks
+    typed (0 ∷ 1 ∷ 0 ∷ []) marks
     -- 0: call 2 left; 1: call 1 left (node 0); 2: symbol 0
     (2 ∷ 2 ∷ 1 ∷ 0 ∷ 0 ∷ 2 ∷ 1 ∷ 1 ∷ 0 ∷ 0 ∷ 1 ∷ 0 ∷ 0 ∷ 0 ∷ 0 ∷ [])
     (0 ∷ 1 ∷ 1 ∷ 1 ∷ 0 ∷ 2 ∷ [])
@@ -37,7 +46,7 @@ Sized counts = contract 1 1 4 counts [] (0 ∷ []) (0 ∷ []) (0 ∷ 0 ∷ 0 ∷
 
 -- Types of C1 and a procedure with no rule. "Turning down a contract because some tree has no output" would refuse it.
 abbrev pub Silent : Contract
-Silent = contract 2 1 2 (0 ∷ []) (0 ∷ 0 ∷ 0 ∷ 0 ∷ 0 ∷ 1 ∷ 0 ∷ 0 ∷ []) (1 ∷ []) (0 ∷ 1 ∷ 1 ∷ 1 ∷ 1 ∷ []) (0 ∷ 0 ∷ []) [] []
+Silent = typed (0 ∷ []) (0 ∷ 0 ∷ []) [] []
 
 -- an output type that tells 0, 1(0, 0) and 1 of 1(0, 0) twice from all other trees, and allows the second and the third
 abbrev pub pairTable : List ℕ

@@ -22,7 +22,7 @@ use Rattle.model.specs.Running.{_after_, addRow, countCall, seekRule, evaluate,
 use Rattle.model.specs.WritingOut.{writingVerdict, writingOut}
 use Rattle.worked_table.specs.Questions
 use Rattle.worked_table.specs.Questions.{Question, Reply, ask}
-use Rattle.worked_table.specs.Contracts.{C1, C2, C3, Sized, Silent, OneChoice, OneChild, LateSymbol}
+use Rattle.worked_table.specs.Contracts.{bothAccepted, C1, C2, C3, Sized, Silent, OneChoice, OneChild, LateSymbol}
 
 pub record Case : Type 0 where
   pub contract : Contract
@@ -44,9 +44,9 @@ closedRun n rows = zeroFilled (3 * n) rows ∷ []
 abbrev pub table : List Case
 table =
     -- X1
-    line (C1 (1 ∷ 1 ∷ [])) (Questions.check 2) (pass 2) (closed 2 (0 ∷ 0 ∷ 0 ∷ 1 ∷ 0 ∷ 0 ∷ []) (1 ∷ 1 ∷ 0 ∷ 0 ∷ 0 ∷ 1 ∷ 2 ∷ 0 ∷ 0 ∷ 0 ∷ []))
+    line (C1 bothAccepted) (Questions.check 2) (pass 2) (closed 2 (0 ∷ 0 ∷ 0 ∷ 1 ∷ 0 ∷ 0 ∷ []) (1 ∷ 1 ∷ 0 ∷ 0 ∷ 0 ∷ 1 ∷ 2 ∷ 0 ∷ 0 ∷ 0 ∷ []))
     -- X2
-    ∷ line (C1 (1 ∷ 1 ∷ [])) (Questions.check 1) (refusal 10 1) (closed 1 [] [])
+    ∷ line (C1 bothAccepted) (Questions.check 1) (refusal 10 1) (closed 1 [] [])
     -- X3
     ∷ line (C1 (0 ∷ 1 ∷ [])) (Questions.check 1) (tree 0) (closed 1 (0 ∷ 0 ∷ 0 ∷ []) (1 ∷ 1 ∷ 0 ∷ 0 ∷ 0 ∷ []))
     -- X4, and its row 1 written out

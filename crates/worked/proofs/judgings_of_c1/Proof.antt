@@ -2,8 +2,8 @@
 use mathlib.Core.List.{[], _∷_, _++_}
 use Rattle.printing.proofs.Runs.{appended-both}
 use Rattle.worked_table.specs.Questions as questions
-use Rattle.worked_table.specs.Contracts.{C1}
-use Rattle.worked.specs.Lines.{bothAccepted, line, judgingsOfC1}
+use Rattle.worked_table.specs.Contracts.{bothAccepted, C1}
+use Rattle.worked.specs.Lines.{line, judgingsOfC1}
 use borrow.Author.Needs.{needs}
 use Rattle.worked.proofs.judgings_of_c1.Statement.{statement}
 use Rattle.worked.proofs.judgings_of_c1.Tie as tie

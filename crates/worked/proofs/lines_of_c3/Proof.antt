@@ -2,8 +2,8 @@
 use mathlib.Core.List.{[], _∷_}
 use Rattle.printing.proofs.Runs.{appended-both}
 use Rattle.worked_table.specs.Questions as questions
-use Rattle.worked_table.specs.Contracts.{C3}
-use Rattle.worked.specs.Lines.{bothAccepted, line, linesOfC3}
+use Rattle.worked_table.specs.Contracts.{bothAccepted, C3}
+use Rattle.worked.specs.Lines.{line, linesOfC3}
 use borrow.Author.Needs.{needs}
 use Rattle.worked.proofs.lines_of_c3.Statement.{statement}
 use Rattle.worked.proofs.lines_of_c3.Tie as tie

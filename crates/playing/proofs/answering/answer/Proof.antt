@@ -19,8 +19,8 @@ lent-to-requires c κs = search needs
 ask-lent-requires : tie.Need-ask-lent-requires
 ask-lent-requires c κs = let er : c .before .before .before .lent-to .result .rows ≡ lentTo (c .before .before .before .before .before .before .before .before .args .question) .rows = ap (λ (l : Lent). l .rows) (c .before .before .before .lent-to .ensures) in let ew : c .before .before .before .lent-to .result .words ≡ lentTo (c .before .before .before .before .before .before .before .before .args .question) .words = ap (λ (l : Lent). l .words) (c .before .before .before .lent-to .ensures) in let m = lent-most (c .before .before .before .before .before .before .before .before .args .question) in (c .before .before .before .before .before .before .before .before .pre .0, c .before .before .before .before .before .before .before .before .pre .1, c .before .before .before .before .before .before .before .before .pre .2, omega (arith, m .0, c .before .before .before .before .before .before .before .before .pre .4 .rowsLong), omega (arith, m .1, c .before .before .before .before .before .before .before .before .pre .4 .wordsLong))
 
-answer-line-requires : tie.Need-answer-line-requires
-answer-line-requires c κs = search needs
+append-answer-line-requires : tie.Need-append-answer-line-requires
+append-answer-line-requires c κs = search needs
 
 left-after-requires : tie.Need-left-after-requires
 left-after-requires c κs = search needs
@@ -53,7 +53,7 @@ same-length-4 : tie.Need-same-length-4
 same-length-4 c = search needs
 
 returns : tie.Need-returns
-returns c = λ label. plays-set label (c .before .before .before .before .before .before .before .before .before .before .before .before .before .before .before .before .before .before .before .before .before .before .before .before .before .before .args .numbers .now) (c .before .before .before .before .before .before .before .before .before .before .before .before .before .before .before .before .before .before .before .before .before .before .before .before .before .before .args .rows .now) (c .before .before .before .before .before .before .before .before .before .before .before .before .before .before .before .before .before .before .before .before .before .before .before .before .before .before .args .words .now) (c .before .before .before .before .before .before .before .before .before .before .before .before .before .before .before .before .before .before .before .before .before .before .before .before .before .before .args .out .now) (c .before .before .before .before .before .before .before .before .before .before .before .before .before .before .before .before .before .before .before .before .before .before .before .before .before .before .args .desk) (c .before .before .before .before .before .before .before .before .before .before .before .before .before .before .before .before .before .before .before .before .before .before .before .before .before .before .pre .0) (c .before .before .before .before .before .before .before .before .before .before .before .before .before .before .before .before .before .before .before .before .before .before .before .before .before .before .args .question) (c .before .before .before .before .before .before .before .before .before .before .before .before .before .before .before .before .before .before .before .before .before .before .before .before .before .before .args .end) (c .before .before .before .before .before .before .before .before .before .before .before .before .before .before .before .before .before .before .before .before .before .before .before .before .before .before .pre .3) (c .before .before .before .before .before .before .before .before .before .before .before .before .before .before .before .before .before .before .before .before .before .before .before .before .before .before .pre .4 .outLong) (c .before .before .before .before .before .before .before .before .before .before .before .before .before .before .before .before .before .before .before .before .before .lent-to .result) (numbered (c .before .before .before .before .before .before .before .before .before .before .before .before .before .before .before .before .before .ask-lent .result)) (c .before .before .before .before .before .before .before .before .before .before .before .before .before .before .before .before .before .before .before .before .before .lent-to .ensures) (c .before .before .before .before .before .before .before .before .before .before .before .before .before .before .before .before .before .ask-lent .ensures) (c .before .before .before .before .before .before .before .before .before .before .before .answer-line .ensures) (c .before .before .before .before .before .before .before .before .left-after .ensures) (sym (c .before .before .before .before .before .before .before .sets-rows .ensures) ∙ c .before .before .before .before .before .before .if1 .taken) (c .before .before .before .copy .ensures) (c .set-left .ensures)
+returns c = λ label. plays-set label (c .before .before .before .before .before .before .before .before .before .before .before .before .before .before .before .before .before .before .before .before .before .before .before .before .before .before .args .numbers .now) (c .before .before .before .before .before .before .before .before .before .before .before .before .before .before .before .before .before .before .before .before .before .before .before .before .before .before .args .rows .now) (c .before .before .before .before .before .before .before .before .before .before .before .before .before .before .before .before .before .before .before .before .before .before .before .before .before .before .args .words .now) (c .before .before .before .before .before .before .before .before .before .before .before .before .before .before .before .before .before .before .before .before .before .before .before .before .before .before .args .out .now) (c .before .before .before .before .before .before .before .before .before .before .before .before .before .before .before .before .before .before .before .before .before .before .before .before .before .before .args .desk) (c .before .before .before .before .before .before .before .before .before .before .before .before .before .before .before .before .before .before .before .before .before .before .before .before .before .before .pre .0) (c .before .before .before .before .before .before .before .before .before .before .before .before .before .before .before .before .before .before .before .before .before .before .before .before .before .before .args .question) (c .before .before .before .before .before .before .before .before .before .before .before .before .before .before .before .before .before .before .before .before .before .before .before .before .before .before .args .end) (c .before .before .before .before .before .before .before .before .before .before .before .before .before .before .before .before .before .before .before .before .before .before .before .before .before .before .pre .3) (c .before .before .before .before .before .before .before .before .before .before .before .before .before .before .before .before .before .before .before .before .before .before .before .before .before .before .pre .4 .outLong) (c .before .before .before .before .before .before .before .before .before .before .before .before .before .before .before .before .before .before .before .before .before .lent-to .result) (numbered (c .before .before .before .before .before .before .before .before .before .before .before .before .before .before .before .before .before .ask-lent .result)) (c .before .before .before .before .before .before .before .before .before .before .before .before .before .before .before .before .before .before .before .before .before .lent-to .ensures) (c .before .before .before .before .before .before .before .before .before .before .before .before .before .before .before .before .before .ask-lent .ensures) (c .before .before .before .before .before .before .before .before .before .before .before .append-answer-line .ensures) (c .before .before .before .before .before .before .before .before .left-after .ensures) (sym (c .before .before .before .before .before .before .before .sets-rows .ensures) ∙ c .before .before .before .before .before .before .if1 .taken) (c .before .before .before .copy .ensures) (c .set-left .ensures)
 
 set-left-requires-2 : tie.Need-set-left-requires-2
 set-left-requires-2 c κs = search needs
@@ -71,7 +71,7 @@ same-length-8 : tie.Need-same-length-8
 same-length-8 c = search needs
 
 returns-2 : tie.Need-returns-2
-returns-2 c = λ label. plays-kept label (c .before .before .before .before .before .before .before .before .before .before .before .before .before .before .before .before .before .before .before .before .before .before .args .numbers .now) (c .before .before .before .before .before .before .before .before .before .before .before .before .before .before .before .before .before .before .before .before .before .before .args .rows .now) (c .before .before .before .before .before .before .before .before .before .before .before .before .before .before .before .before .before .before .before .before .before .before .args .words .now) (c .before .before .before .before .before .before .before .before .before .before .before .before .before .before .before .before .before .before .before .before .before .before .args .out .now) (c .before .before .before .before .before .before .before .before .before .before .before .before .before .before .before .before .before .before .before .before .before .before .args .desk) (c .before .before .before .before .before .before .before .before .before .before .before .before .before .before .before .before .before .before .before .before .before .before .pre .0) (c .before .before .before .before .before .before .before .before .before .before .before .before .before .before .before .before .before .before .before .before .before .before .args .question) (c .before .before .before .before .before .before .before .before .before .before .before .before .before .before .before .before .before .before .before .before .before .before .args .end) (c .before .before .before .before .before .before .before .before .before .before .before .before .before .before .before .before .before .before .before .before .before .before .pre .3) (c .before .before .before .before .before .before .before .before .before .before .before .before .before .before .before .before .before .before .before .before .before .before .pre .4 .outLong) (c .before .before .before .before .before .before .before .before .before .before .before .before .before .before .before .before .before .lent-to .result) (numbered (c .before .before .before .before .before .before .before .before .before .before .before .before .before .ask-lent .result)) (c .before .before .before .before .before .before .before .before .before .before .before .before .before .before .before .before .before .lent-to .ensures) (c .before .before .before .before .before .before .before .before .before .before .before .before .before .ask-lent .ensures) (c .before .before .before .before .before .before .before .answer-line .ensures) (c .before .before .before .before .left-after .ensures) (sym (c .before .before .before .sets-rows .ensures) ∙ c .before .before .if1 .left) (c .set-left2 .ensures)
+returns-2 c = λ label. plays-kept label (c .before .before .before .before .before .before .before .before .before .before .before .before .before .before .before .before .before .before .before .before .before .before .args .numbers .now) (c .before .before .before .before .before .before .before .before .before .before .before .before .before .before .before .before .before .before .before .before .before .before .args .rows .now) (c .before .before .before .before .before .before .before .before .before .before .before .before .before .before .before .before .before .before .before .before .before .before .args .words .now) (c .before .before .before .before .before .before .before .before .before .before .before .before .before .before .before .before .before .before .before .before .before .before .args .out .now) (c .before .before .before .before .before .before .before .before .before .before .before .before .before .before .before .before .before .before .before .before .before .before .args .desk) (c .before .before .before .before .before .before .before .before .before .before .before .before .before .before .before .before .before .before .before .before .before .before .pre .0) (c .before .before .before .before .before .before .before .before .before .before .before .before .before .before .before .before .before .before .before .before .before .before .args .question) (c .before .before .before .before .before .before .before .before .before .before .before .before .before .before .before .before .before .before .before .before .before .before .args .end) (c .before .before .before .before .before .before .before .before .before .before .before .before .before .before .before .before .before .before .before .before .before .before .pre .3) (c .before .before .before .before .before .before .before .before .before .before .before .before .before .before .before .before .before .before .before .before .before .before .pre .4 .outLong) (c .before .before .before .before .before .before .before .before .before .before .before .before .before .before .before .before .before .lent-to .result) (numbered (c .before .before .before .before .before .before .before .before .before .before .before .before .before .ask-lent .result)) (c .before .before .before .before .before .before .before .before .before .before .before .before .before .before .before .before .before .lent-to .ensures) (c .before .before .before .before .before .before .before .before .before .before .before .before .before .ask-lent .ensures) (c .before .before .before .before .before .before .before .append-answer-line .ensures) (c .before .before .before .before .left-after .ensures) (sym (c .before .before .before .sets-rows .ensures) ∙ c .before .before .if1 .left) (c .set-left2 .ensures)
 
 pub answer-spec : {M : Type 1} → statement M
 answer-spec =
@@ -79,7 +79,7 @@ answer-spec =
     (tie.spec
     lent-to-requires
     ask-lent-requires
-    answer-line-requires
+    append-answer-line-requires
     left-after-requires
     sets-rows-requires
     slice-reshare-prefix-copy

@@ -6,8 +6,7 @@ use native.Mathlib.Omega.{arith}
 use lib.ListN.{length, take, length-take}
 use lib.Seq.{length-take-le}
 use Rattle.script.specs.Phrases as phrases
-use Rattle.script.specs.Meaning.{spaced, untouched}
-use Rattle.playing.specs.Printed.{line}
+use Rattle.script.specs.Meaning.{line, spaced, untouched}
 use Rattle.playing.proofs.PlayLaws.{one-line, one-fits, two-lines, two-fit, list-line, sevens-length}
 use borrow.Author.Needs.{needs}
 use Rattle.playing.proofs.showing.show.Statement.{statement}

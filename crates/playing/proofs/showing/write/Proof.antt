@@ -6,9 +6,8 @@ use lib.ListN.{length}
 use Rattle.model.specs.WritingOut.{Written, writingOut}
 use Rattle.answers.specs.Numbers.{writingAnswer}
 use Rattle.printing.proofs.Runs.{Appended}
-use Rattle.script.specs.Meaning.{writtenText, untouched}
+use Rattle.script.specs.Meaning.{line, writtenText, untouched}
 use Rattle.playing.specs.Desks.{stretch}
-use Rattle.playing.specs.Printed.{line}
 use Rattle.playing.proofs.LineLaws.{line-length, written-short}
 use Rattle.playing.proofs.PlayLaws.{written-whole, one-line, one-fits}
 use borrow.Author.Needs.{needs}

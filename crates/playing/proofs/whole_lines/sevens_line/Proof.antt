@@ -2,7 +2,7 @@
 use mathlib.Core.List.{_++_}
 use Rattle.printing.proofs.Runs.{appended-both}
 use Rattle.script.specs.Meaning.{spaced, untouched}
-use Rattle.playing.proofs.LineLaws.{line-appended}
+use Rattle.lines.proofs.Lined.{line-appended}
 use borrow.Author.Needs.{needs}
 use Rattle.playing.proofs.whole_lines.sevens_line.Statement.{statement}
 use Rattle.playing.proofs.whole_lines.sevens_line.Tie as tie

@@ -2,7 +2,7 @@
 use mathlib.Core.List.{_++_}
 use Rattle.script.specs.Phrases as phrases
 use Rattle.script.specs.Meaning.{spaced}
-use Rattle.playing.proofs.LineLaws.{line-appended}
+use Rattle.lines.proofs.Lined.{line-appended}
 use borrow.Author.Needs.{needs}
 use Rattle.playing.proofs.whole_lines.words_line.Statement.{statement}
 use Rattle.playing.proofs.whole_lines.words_line.Tie as tie

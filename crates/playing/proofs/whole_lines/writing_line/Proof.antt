@@ -1,7 +1,7 @@
 -- A space, the text and a line feed, one behind another.
 use Rattle.answers.specs.Numbers.{writingAnswer}
 use Rattle.script.specs.Meaning.{writtenText}
-use Rattle.playing.proofs.LineLaws.{line-appended}
+use Rattle.lines.proofs.Lined.{line-appended}
 use borrow.Author.Needs.{needs}
 use Rattle.playing.proofs.whole_lines.writing_line.Statement.{statement}
 use Rattle.playing.proofs.whole_lines.writing_line.Tie as tie

@@ -5,7 +5,8 @@ use Prim.Native.Nat.{ℕ}
 use Rattle.printing.proofs.Runs.{appended-of}
 use Rattle.worked_table.specs.Questions as questions
 use Rattle.worked_table.specs.Questions.{ask}
-use Rattle.worked.specs.Lines.{typed, answerLine, line}
+use Rattle.worked_table.specs.Contracts.{typed}
+use Rattle.worked.specs.Lines.{answerLine, line}
 use borrow.Author.Needs.{needs}
 use Rattle.worked.proofs.contracts.check_c1.Statement.{statement}
 use Rattle.worked.proofs.contracts.check_c1.Tie as tie

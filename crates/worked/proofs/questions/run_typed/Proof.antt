@@ -4,7 +4,7 @@ use mathlib.Core.List.{List}
 use Prim.Native.Nat.{ℕ, _*_}
 use native.Mathlib.Omega.{arith}
 use Rattle.worked_table.specs.Questions.{ask}
-use Rattle.worked.specs.Lines.{typed}
+use Rattle.worked_table.specs.Contracts.{typed}
 use Rattle.model.specs.Running.{running}
 use Rattle.worked.proofs.Sevens.{sevens, sevens-length}
 use borrow.Author.Needs.{needs}
