@@ -6,8 +6,6 @@ ghost use lib.ListN.{length, getD, set};
 ghost use Rattle.model.specs.Tables.{inputRow, inputRowCount, ruleAt, ruleCount};
 ghost use Rattle.chains.specs.Chaining.{Emptied, Chaining};
 use lanes::place;
-use tables::InputRow;
-use tables::Rule;
 use tables::Symbol;
 use tables::input_row_at;
 use tables::rule_at;

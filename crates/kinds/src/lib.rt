@@ -22,8 +22,6 @@ use lanes::place;
 use lanes::up;
 use lanes::wide;
 use node_words::fill_words;
-use tables::InputRow;
-use tables::Rule;
 use tables::Symbol;
 use tables::input_row_at;
 use tables::rule_at;

@@ -24,7 +24,6 @@ use lanes::spread;
 use lanes::symbol_word;
 use lanes::up;
 use lanes::wide;
-use tables::Node;
 use tables::Procedure;
 use tables::Symbol;
 use tables::node_at;
