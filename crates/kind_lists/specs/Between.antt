@@ -20,21 +20,10 @@ use Rattle.model.proofs.Rounds.Listing.{Ended, adds-nothing}
 use Rattle.model.specs.Meaning.{NoneBreaks}
 use Rattle.model.proofs.Rounds.Buffers.{beginning-five}
 use Rattle.kind_lists.specs.Held.{kindIn, Holds, kind-held}
-use Rattle.kind_lists.specs.Steps.{At, listAt}
+use Rattle.kind_lists.specs.Steps.{LeftSame, RightSame, Marked, At, listAt}
 use Rattle.kind_lists.specs.Marks.{maskIn, agrees-under, MarksOf, MarkedFrom, Covered}
 
 module _ (C : Contract) where
-  -- a row makes the same kinds as an earlier one, on the left or on the right
-  abbrev pub LeftSame : (height s i : ℕ) → Type 0
-  LeftSame height s i =
-      (e : ℕ) × (e < i)
-      × ((q : List ℕ) → nextKind C s (kindAt C (rounds (kindAutomaton C) height) i) q ≡ nextKind C s (kindAt C (rounds (kindAutomaton C) height) e) q)
-
-  abbrev pub RightSame : (height s j : ℕ) → Type 0
-  RightSame height s j =
-      (e : ℕ) × (e < j)
-      × ((q : List ℕ) → nextKind C s q (kindAt C (rounds (kindAutomaton C) height) j) ≡ nextKind C s q (kindAt C (rounds (kindAutomaton C) height) e))
-
   -- the buffers hold the rows of rounds 0 to `height`; those below `before` stood in the round before
   pub record Between (limit before stood : ℕ) (rows words : List ℕ) : Type 0 where
     pub height : ℕ
@@ -46,15 +35,6 @@ module _ (C : Contract) where
     pub holds : Holds C limit rows words (rounds (kindAutomaton C) height)
     pub none : NoneBreaks C stood (rounds (kindAutomaton C) height)
     pub ended : before ≡ stood → Ended (kindAutomaton C) height
-
-  -- the rows below `marked` have their marks
-  pub record Marked (height marked : ℕ) (lefts rights : List ℕ) : Type 0 where
-    pub leftSame : (s i : ℕ) → 1 ≤ s → s < C .transformation .symbols → i < marked → bit (getD lefts i 0) s ≡ false → LeftSame height s i
-    pub rightSame : (s j : ℕ) → 1 ≤ s → s < C .transformation .symbols → j < marked → bit (getD rights j 0) s ≡ false → RightSame height s j
-
-  pub none-marked-yet : (height : ℕ) (lefts rights : List ℕ) → Marked height 0 lefts rights
-  none-marked-yet height lefts rights =
-      record { leftSame = λ s i h1 hS hi u. absurd (omega arith); rightSame = λ s j h1 hS hj u. absurd (omega arith) }
 
   module _ (known : Established C) (leftMasks rightMasks : List ℕ) (covered : Covered C leftMasks rightMasks)
       {limit before stood : ℕ} {rows words : List ℕ} (b : Between limit before stood rows words) where
@@ -73,22 +53,22 @@ module _ (C : Contract) where
         let (e, le, t) = m .unmarked s h1 hS unmarked in
         (e, le, rw (held j (omega arith), held e (omega arith)) at (agrees-under words e j masks s t))
 
-    module _ {marked : ℕ} {lefts rights lefts′ rights′ : List ℕ} (m : Marked (b .height) marked lefts rights)
+    module _ {marked : ℕ} {lefts rights lefts′ rights′ : List ℕ} (m : Marked C (b .height) marked lefts rights)
         (ml : MarkedFrom words leftMasks (C .transformation .symbols) marked stood lefts lefts′)
         (mr : MarkedFrom words rightMasks (C .transformation .symbols) marked stood rights rights′) where
-      left-same : (s i : ℕ) → 1 ≤ s → s < C .transformation .symbols → i < stood → bit (getD lefts′ i 0) s ≡ false → LeftSame (b .height) s i
+      left-same : (s i : ℕ) → 1 ≤ s → s < C .transformation .symbols → i < stood → bit (getD lefts′ i 0) s ≡ false → LeftSame C (b .height) s i
       left-same s i h1 hS hi unmarked = go (decLt i marked)
         where
-          go : Dec (i < marked) → LeftSame (b .height) s i
+          go : Dec (i < marked) → LeftSame C (b .height) s i
           go (yes l) = m .leftSame s i h1 hS l (ap (λ (w : ℕ). bit w s) (sym (ml .kept i l)) ∙ unmarked)
           go (no l) =
               let (e, le, a) = agrees leftMasks (C .transformation .symbols) s i (getD lefts′ i 0) h1 hS hi (ml .marks i (omega arith) hi) unmarked in
               (e, le, λ q. class-agree C known s (onSide (maskIn leftMasks s) (maskIn rightMasks s)) (covered .covers s h1 hS) _ _ q q a (agree-self (maskIn rightMasks s) q))
 
-      right-same : (s j : ℕ) → 1 ≤ s → s < C .transformation .symbols → j < stood → bit (getD rights′ j 0) s ≡ false → RightSame (b .height) s j
+      right-same : (s j : ℕ) → 1 ≤ s → s < C .transformation .symbols → j < stood → bit (getD rights′ j 0) s ≡ false → RightSame C (b .height) s j
       right-same s j h1 hS hj unmarked = go (decLt j marked)
         where
-          go : Dec (j < marked) → RightSame (b .height) s j
+          go : Dec (j < marked) → RightSame C (b .height) s j
           go (yes l) = m .rightSame s j h1 hS l (ap (λ (w : ℕ). bit w s) (sym (mr .kept j l)) ∙ unmarked)
           go (no l) =
               let (e, le, a) = agrees rightMasks (C .transformation .symbols) s j (getD rights′ j 0) h1 hS hj (mr .marks j (omega arith) hj) unmarked in
@@ -108,8 +88,7 @@ module _ (C : Contract) where
                   old = b .old;
                   leftRoom = leftRoom;
                   rightRoom = rightRoom;
-                  leftSame = left-same;
-                  rightSame = right-same;
+                  marks = record { leftSame = left-same; rightSame = right-same };
                 };
             symbol = omega arith;
             counted = b .stands ∙ ap length (sym e);
@@ -120,7 +99,7 @@ module _ (C : Contract) where
   -- a round ends, and its rows have their marks
   pub round-ends : {limit before stood n : ℕ} {lefts rights rows words : List ℕ}
       → At C limit before stood lefts rights (C .transformation .symbols) 0 0 n rows words
-      → (b : Between limit stood n rows words) × Marked (b .height) stood lefts rights
+      → (b : Between limit stood n rows words) × Marked C (b .height) stood lefts rights
   unfolding rounds round
   round-ends {limit} {before} {stood} {n} {lefts} {rights} {rows} {words} at = (
     record {
@@ -135,10 +114,10 @@ module _ (C : Contract) where
     },
     record {
       leftSame = λ s i h1 hS hi u.
-          let (e, le, q) = at .inRound .leftSame s i h1 hS hi u in
+          let (e, le, q) = at .inRound .marks .leftSame s i h1 hS hi u in
           (e, le, λ k. ap (λ (kind : List ℕ). nextKind C s kind k) (begins-state grows i (omega arith)) ∙ q k ∙ ap (λ (kind : List ℕ). nextKind C s kind k) (sym (begins-state grows e (omega arith))));
       rightSame = λ s j h1 hS hj u.
-          let (e, le, q) = at .inRound .rightSame s j h1 hS hj u in
+          let (e, le, q) = at .inRound .marks .rightSame s j h1 hS hj u in
           (e, le, λ k. ap (λ (kind : List ℕ). nextKind C s k kind) (begins-state grows j (omega arith)) ∙ q k ∙ ap (λ (kind : List ℕ). nextKind C s k kind) (sym (begins-state grows e (omega arith))));
     },
   )

@@ -39,8 +39,27 @@ progressOf offered.Breaks n = progress.Breaks n
 progressOf offered.Full n = progress.Full
 
 module _ (C : Contract) where
-  -- a round over the rows of rounds 0 to `height`: pairs of rows below `before` are listed, and a row whose mark for a
-  -- symbol is missing makes the same kinds as an earlier row
+  -- a row makes the same kinds as an earlier one, on the left or on the right
+  abbrev pub LeftSame : (height s i : ℕ) → Type 0
+  LeftSame height s i =
+      (e : ℕ) × (e < i)
+      × ((q : List ℕ) → nextKind C s (kindAt C (rounds (kindAutomaton C) height) i) q ≡ nextKind C s (kindAt C (rounds (kindAutomaton C) height) e) q)
+
+  abbrev pub RightSame : (height s j : ℕ) → Type 0
+  RightSame height s j =
+      (e : ℕ) × (e < j)
+      × ((q : List ℕ) → nextKind C s q (kindAt C (rounds (kindAutomaton C) height) j) ≡ nextKind C s q (kindAt C (rounds (kindAutomaton C) height) e))
+
+  -- the rows below `marked` have their marks: one that misses a symbol's makes the same kinds as an earlier row
+  pub record Marked (height marked : ℕ) (lefts rights : List ℕ) : Type 0 where
+    pub leftSame : (s i : ℕ) → 1 ≤ s → s < C .transformation .symbols → i < marked → bit (getD lefts i 0) s ≡ false → LeftSame height s i
+    pub rightSame : (s j : ℕ) → 1 ≤ s → s < C .transformation .symbols → j < marked → bit (getD rights j 0) s ≡ false → RightSame height s j
+
+  pub none-marked-yet : (height : ℕ) (lefts rights : List ℕ) → Marked height 0 lefts rights
+  none-marked-yet height lefts rights =
+      record { leftSame = λ s i h1 hS hi u. absurd (omega arith); rightSame = λ s j h1 hS hj u. absurd (omega arith) }
+
+  -- a round over the rows of rounds 0 to `height`, all marked: pairs of rows below `before` are listed
   pub record Round (before stood : ℕ) (lefts rights : List ℕ) : Type 0 where
     pub height : ℕ
     pub stands : stood ≡ length (rounds (kindAutomaton C) height)
@@ -50,12 +69,7 @@ module _ (C : Contract) where
         (nextKind C s (kindAt C (rounds (kindAutomaton C) height) i) (kindAt C (rounds (kindAutomaton C) height) j))
     pub leftRoom : stood ≤ length lefts
     pub rightRoom : stood ≤ length rights
-    pub leftSame : (s i : ℕ) → 1 ≤ s → s < C .transformation .symbols → i < stood → bit (getD lefts i 0) s ≡ false
-        → (e : ℕ) × (e < i)
-        × ((q : List ℕ) → nextKind C s (kindAt C (rounds (kindAutomaton C) height) i) q ≡ nextKind C s (kindAt C (rounds (kindAutomaton C) height) e) q)
-    pub rightSame : (s j : ℕ) → 1 ≤ s → s < C .transformation .symbols → j < stood → bit (getD rights j 0) s ≡ false
-        → (e : ℕ) × (e < j)
-        × ((q : List ℕ) → nextKind C s q (kindAt C (rounds (kindAutomaton C) height) j) ≡ nextKind C s q (kindAt C (rounds (kindAutomaton C) height) e))
+    pub marks : Marked height stood lefts rights
 
   -- the list in the middle of a round, before symbol s over rows i and j
   abbrev pub listAt : (height s i j : ℕ) → List (ListedKind C)
@@ -118,7 +132,7 @@ module _ (C : Contract) where
         → At limit before stood lefts rights s i (j + 1) n rows words
     pass-right hS hi hj unmarked =
         let stands = at .inRound .stands in
-        let (e, le, q) = at .inRound .rightSame s j (at .symbol) hS hj unmarked in
+        let (e, le, q) = at .inRound .marks .rightSame s j (at .symbol) hS hj unmarked in
         moved at s i (j + 1) (at .symbol)
         (rw (add-one j)
         (skip-pair (kindAutomaton C) (kinds-decided C) standing s i j (at .symbol) (omega arith) (omega arith)
@@ -129,7 +143,7 @@ module _ (C : Contract) where
         → At limit before stood lefts rights s (i + 1) 0 n rows words
     pass-left z hS hi unmarked =
         let stands = at .inRound .stands in
-        let (e, le, q) = at .inRound .leftSame s i (at .symbol) hS hi unmarked in
+        let (e, le, q) = at .inRound .marks .leftSame s i (at .symbol) hS hi unmarked in
         moved at s (i + 1) 0 (at .symbol)
         (rw (add-one i, z)
         (skip-left (kindAutomaton C) (kinds-decided C) standing s i (at .symbol) (omega arith)

@@ -5,7 +5,8 @@ use Prim.Native.Nat.{_-_}
 use native.Mathlib.Omega.{arith}
 use lib.ListN.{length}
 use Rattle.model.specs.Tables.{contract}
-use Rattle.kind_lists.specs.Between.{Between, Marked, none-marked-yet, round-starts, round-ends}
+use Rattle.kind_lists.specs.Steps.{Marked, none-marked-yet}
+use Rattle.kind_lists.specs.Between.{Between, round-starts, round-ends}
 use Rattle.kind_lists.proofs.Stops.{ends, goes, kept-lengths}
 use Rattle.kind_lists.proofs.Laps.{between-room, between-some}
 use Rattle.kind_lists.proofs.loops.all_rounds.Statement.{statement}
