@@ -1,6 +1,6 @@
 -- TurnLaws: reading a statement and doing it is one unfolding of what the definition prints.
 use mathlib.Core.Path.{_≡_, refl, ap, ap₂, sym, subst, _∙_}
-use mathlib.Core.Bool.{Bool, true, false, true≢false}
+use mathlib.Core.Bool.{Bool, true, false}
 use mathlib.Core.List.{List, [], _++_}
 use Prim.Native.Nat.{ℕ, suc, _+_, _-_, _≤_}
 use native.Mathlib.Omega.{arith}
@@ -21,8 +21,6 @@ use Rattle.script.specs.declared.spans.Fault.{Fault}
 use Rattle.script.specs.declared.spans.Expected.{Expected}
 use Rattle.script.specs.declared.spans.Expected.the-variants as expected
 use Rattle.script.specs.declared.statements.Reading.{Reading}
-use Rattle.script.specs.declared.statements.Statement.{Statement}
-use Rattle.script.specs.declared.statements.Statement.the-variants as statement
 use Rattle.playing.specs.declared.desks.Label.{Label}
 use Rattle.playing.specs.declared.desks.Desk.{Desk}
 use Rattle.playing.specs.declared.showing.Printed.{Printed}
