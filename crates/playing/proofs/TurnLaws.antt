@@ -21,7 +21,6 @@ use Rattle.script.specs.declared.spans.Fault.{Fault}
 use Rattle.script.specs.declared.spans.Expected.{Expected}
 use Rattle.script.specs.declared.spans.Expected.the-variants as expected
 use Rattle.script.specs.declared.statements.Reading.{Reading}
-use Rattle.script.specs.declared.statements.Statement.{Statement}
 use Rattle.playing.specs.declared.desks.Label.{Label}
 use Rattle.playing.specs.declared.desks.Desk.{Desk}
 use Rattle.playing.specs.declared.showing.Printed.{Printed}

@@ -146,59 +146,38 @@ pub fn set_size(desk: Desk, size: Size, value: usize) -> Desk
     ensures { λ r. ⌜ r ≡ deskWithSize desk size value ⌝ }
 {
     let sizes = desk.sizes;
-    let changed = with_size(sizes, size, value);
-    let tables = desk.tables;
-    let rows = desk.rows;
-    let left = desk.left;
-    Desk {
-        sizes: changed,
-        tables: tables,
-        rows: rows,
-        left: left,
-        used: desk.used,
-    }
+    let mut next = desk;
+    next.sizes = with_size(sizes, size, value);
+    next
 }
 
 // The free numbers up to an end are a table from now on.
 pub fn set_table(desk: Desk, table: Table, end: usize) -> Desk
     ensures { λ r. ⌜ r ≡ deskWithTable desk table end ⌝ }
 {
-    let sizes = desk.sizes;
     let tables = desk.tables;
     let place = Span {
         start: desk.used,
         end: end,
     };
-    let changed = with_table(tables, table, place);
-    let rows = desk.rows;
-    let left = desk.left;
-    Desk {
-        sizes: sizes,
-        tables: changed,
-        rows: rows,
-        left: left,
-        used: end,
-    }
+    let mut next = desk;
+    next.tables = with_table(tables, table, place);
+    next.used = end;
+    next
 }
 
 // The free numbers up to an end are the current row table from now on.
 pub fn set_rows(desk: Desk, end: usize) -> Desk
     ensures { λ r. ⌜ r ≡ deskWithRows desk end ⌝ }
 {
-    let sizes = desk.sizes;
-    let tables = desk.tables;
     let place = Span {
         start: desk.used,
         end: end,
     };
-    let left = desk.left;
-    Desk {
-        sizes: sizes,
-        tables: tables,
-        rows: place,
-        left: left,
-        used: end,
-    }
+    let mut next = desk;
+    next.rows = place;
+    next.used = end;
+    next
 }
 
 // Other rows are current, and other buffers left.

@@ -17,7 +17,10 @@ lent-to-requires : tie.Need-lent-to-requires
 lent-to-requires c κs = search needs
 
 ask-lent-requires : tie.Need-ask-lent-requires
-ask-lent-requires c κs = let er : c .before .before .before .lent-to .result .rows ≡ lentTo (c .before .before .before .before .before .before .before .before .args .question) .rows = ap (λ (l : Lent). l .rows) (c .before .before .before .lent-to .ensures) in let ew : c .before .before .before .lent-to .result .words ≡ lentTo (c .before .before .before .before .before .before .before .before .args .question) .words = ap (λ (l : Lent). l .words) (c .before .before .before .lent-to .ensures) in let m = lent-most (c .before .before .before .before .before .before .before .before .args .question) in (c .before .before .before .before .before .before .before .before .pre .0, c .before .before .before .before .before .before .before .before .pre .1, c .before .before .before .before .before .before .before .before .pre .2, omega (arith, m .0, c .before .before .before .before .before .before .before .before .pre .4 .rowsLong), omega (arith, m .1, c .before .before .before .before .before .before .before .before .pre .4 .wordsLong))
+ask-lent-requires c κs =
+    let h = c .before .before .before .before .before .before .before .before .pre in
+    let a = c .before .before .before .before .before .before .before .before .args in
+    let er : c .before .before .before .lent-to .result .rows ≡ lentTo (a .question) .rows = ap (λ (l : Lent). l .rows) (c .before .before .before .lent-to .ensures) in let ew : c .before .before .before .lent-to .result .words ≡ lentTo (a .question) .words = ap (λ (l : Lent). l .words) (c .before .before .before .lent-to .ensures) in let m = lent-most (a .question) in (h .0, h .1, h .2, omega (arith, m .0, h .4 .rowsLong), omega (arith, m .1, h .4 .wordsLong))
 
 append-answer-line-requires : tie.Need-append-answer-line-requires
 append-answer-line-requires c κs = search needs
@@ -35,7 +38,9 @@ slice-aggregate-copy : tie.Need-slice-aggregate-copy
 slice-aggregate-copy c = let er : c .before .before .before .before .before .before .before .before .before .before .before .before .before .before .before .before .before .lent-to .result .rows ≡ lentTo (c .before .before .before .before .before .before .before .before .before .before .before .before .before .before .before .before .before .before .before .before .before .before .args .question) .rows = ap (λ (l : Lent). l .rows) (c .before .before .before .before .before .before .before .before .before .before .before .before .before .before .before .before .before .lent-to .ensures) in let m = lent-most (c .before .before .before .before .before .before .before .before .before .before .before .before .before .before .before .before .before .before .before .before .before .before .args .question) in sym (length-take-le _ _ (omega (arith, m .0, c .before .before .before .before .before .before .before .before .before .before .before .before .before .before .before .before .before .before .before .before .before .before .pre .4 .rowsLong, c .before .before .before .before .before .before .before .before .before .before .before .before .before .ask-lent .kept .1 .1 .1 .1 .1 .0)))
 
 copy-requires : tie.Need-copy-requires
-copy-requires c κs = let er : c .before .before .before .before .before .before .before .before .before .before .before .before .before .before .before .before .before .lent-to .result .rows ≡ lentTo (c .before .before .before .before .before .before .before .before .before .before .before .before .before .before .before .before .before .before .before .before .before .before .args .question) .rows = ap (λ (l : Lent). l .rows) (c .before .before .before .before .before .before .before .before .before .before .before .before .before .before .before .before .before .lent-to .ensures) in let m = lent-most (c .before .before .before .before .before .before .before .before .before .before .before .before .before .before .before .before .before .before .before .before .before .before .args .question) in simp length-take (omega (arith, m .0, c .before .before .before .before .before .before .before .before .before .before .before .before .before .before .before .before .before .before .before .before .before .before .pre .0 .least, c .before .before .before .before .before .before .before .before .before .before .before .before .before .before .before .before .before .before .before .before .before .before .pre .1, c .before .before .before .before .before .before .before .before .before .before .before .before .before .before .before .before .before .before .before .before .before .before .pre .2))
+copy-requires c κs =
+    let h = c .before .before .before .before .before .before .before .before .before .before .before .before .before .before .before .before .before .before .before .before .before .before .pre in
+    let er : c .before .before .before .before .before .before .before .before .before .before .before .before .before .before .before .before .before .lent-to .result .rows ≡ lentTo (c .before .before .before .before .before .before .before .before .before .before .before .before .before .before .before .before .before .before .before .before .before .before .args .question) .rows = ap (λ (l : Lent). l .rows) (c .before .before .before .before .before .before .before .before .before .before .before .before .before .before .before .before .before .lent-to .ensures) in let m = lent-most (c .before .before .before .before .before .before .before .before .before .before .before .before .before .before .before .before .before .before .before .before .before .before .args .question) in simp length-take (omega (arith, m .0, h .0 .least, h .1, h .2))
 
 set-left-requires : tie.Need-set-left-requires
 set-left-requires c κs = search needs
@@ -53,7 +58,10 @@ same-length-4 : tie.Need-same-length-4
 same-length-4 c = search needs
 
 returns : tie.Need-returns
-returns c = λ label. plays-set label (c .before .before .before .before .before .before .before .before .before .before .before .before .before .before .before .before .before .before .before .before .before .before .before .before .before .before .args .numbers .now) (c .before .before .before .before .before .before .before .before .before .before .before .before .before .before .before .before .before .before .before .before .before .before .before .before .before .before .args .rows .now) (c .before .before .before .before .before .before .before .before .before .before .before .before .before .before .before .before .before .before .before .before .before .before .before .before .before .before .args .words .now) (c .before .before .before .before .before .before .before .before .before .before .before .before .before .before .before .before .before .before .before .before .before .before .before .before .before .before .args .out .now) (c .before .before .before .before .before .before .before .before .before .before .before .before .before .before .before .before .before .before .before .before .before .before .before .before .before .before .args .desk) (c .before .before .before .before .before .before .before .before .before .before .before .before .before .before .before .before .before .before .before .before .before .before .before .before .before .before .pre .0) (c .before .before .before .before .before .before .before .before .before .before .before .before .before .before .before .before .before .before .before .before .before .before .before .before .before .before .args .question) (c .before .before .before .before .before .before .before .before .before .before .before .before .before .before .before .before .before .before .before .before .before .before .before .before .before .before .args .end) (c .before .before .before .before .before .before .before .before .before .before .before .before .before .before .before .before .before .before .before .before .before .before .before .before .before .before .pre .3) (c .before .before .before .before .before .before .before .before .before .before .before .before .before .before .before .before .before .before .before .before .before .before .before .before .before .before .pre .4 .outLong) (c .before .before .before .before .before .before .before .before .before .before .before .before .before .before .before .before .before .before .before .before .before .lent-to .result) (numbered (c .before .before .before .before .before .before .before .before .before .before .before .before .before .before .before .before .before .ask-lent .result)) (c .before .before .before .before .before .before .before .before .before .before .before .before .before .before .before .before .before .before .before .before .before .lent-to .ensures) (c .before .before .before .before .before .before .before .before .before .before .before .before .before .before .before .before .before .ask-lent .ensures) (c .before .before .before .before .before .before .before .before .before .before .before .append-answer-line .ensures) (c .before .before .before .before .before .before .before .before .left-after .ensures) (sym (c .before .before .before .before .before .before .before .sets-rows .ensures) ∙ c .before .before .before .before .before .before .if1 .taken) (c .before .before .before .copy .ensures) (c .set-left .ensures)
+returns c =
+    let h = c .before .before .before .before .before .before .before .before .before .before .before .before .before .before .before .before .before .before .before .before .before .before .before .before .before .before .pre in
+    let a = c .before .before .before .before .before .before .before .before .before .before .before .before .before .before .before .before .before .before .before .before .before .before .before .before .before .before .args in
+    λ label. plays-set label (a .numbers .now) (a .rows .now) (a .words .now) (a .out .now) (a .desk) (h .0) (a .question) (a .end) (h .3) (h .4 .outLong) (c .before .before .before .before .before .before .before .before .before .before .before .before .before .before .before .before .before .before .before .before .before .lent-to .result) (numbered (c .before .before .before .before .before .before .before .before .before .before .before .before .before .before .before .before .before .ask-lent .result)) (c .before .before .before .before .before .before .before .before .before .before .before .before .before .before .before .before .before .before .before .before .before .lent-to .ensures) (c .before .before .before .before .before .before .before .before .before .before .before .before .before .before .before .before .before .ask-lent .ensures) (c .before .before .before .before .before .before .before .before .before .before .before .append-answer-line .ensures) (c .before .before .before .before .before .before .before .before .left-after .ensures) (sym (c .before .before .before .before .before .before .before .sets-rows .ensures) ∙ c .before .before .before .before .before .before .if1 .taken) (c .before .before .before .copy .ensures) (c .set-left .ensures)
 
 set-left-requires-2 : tie.Need-set-left-requires-2
 set-left-requires-2 c κs = search needs
@@ -71,7 +79,10 @@ same-length-8 : tie.Need-same-length-8
 same-length-8 c = search needs
 
 returns-2 : tie.Need-returns-2
-returns-2 c = λ label. plays-kept label (c .before .before .before .before .before .before .before .before .before .before .before .before .before .before .before .before .before .before .before .before .before .before .args .numbers .now) (c .before .before .before .before .before .before .before .before .before .before .before .before .before .before .before .before .before .before .before .before .before .before .args .rows .now) (c .before .before .before .before .before .before .before .before .before .before .before .before .before .before .before .before .before .before .before .before .before .before .args .words .now) (c .before .before .before .before .before .before .before .before .before .before .before .before .before .before .before .before .before .before .before .before .before .before .args .out .now) (c .before .before .before .before .before .before .before .before .before .before .before .before .before .before .before .before .before .before .before .before .before .before .args .desk) (c .before .before .before .before .before .before .before .before .before .before .before .before .before .before .before .before .before .before .before .before .before .before .pre .0) (c .before .before .before .before .before .before .before .before .before .before .before .before .before .before .before .before .before .before .before .before .before .before .args .question) (c .before .before .before .before .before .before .before .before .before .before .before .before .before .before .before .before .before .before .before .before .before .before .args .end) (c .before .before .before .before .before .before .before .before .before .before .before .before .before .before .before .before .before .before .before .before .before .before .pre .3) (c .before .before .before .before .before .before .before .before .before .before .before .before .before .before .before .before .before .before .before .before .before .before .pre .4 .outLong) (c .before .before .before .before .before .before .before .before .before .before .before .before .before .before .before .before .before .lent-to .result) (numbered (c .before .before .before .before .before .before .before .before .before .before .before .before .before .ask-lent .result)) (c .before .before .before .before .before .before .before .before .before .before .before .before .before .before .before .before .before .lent-to .ensures) (c .before .before .before .before .before .before .before .before .before .before .before .before .before .ask-lent .ensures) (c .before .before .before .before .before .before .before .append-answer-line .ensures) (c .before .before .before .before .left-after .ensures) (sym (c .before .before .before .sets-rows .ensures) ∙ c .before .before .if1 .left) (c .set-left2 .ensures)
+returns-2 c =
+    let h = c .before .before .before .before .before .before .before .before .before .before .before .before .before .before .before .before .before .before .before .before .before .before .pre in
+    let a = c .before .before .before .before .before .before .before .before .before .before .before .before .before .before .before .before .before .before .before .before .before .before .args in
+    λ label. plays-kept label (a .numbers .now) (a .rows .now) (a .words .now) (a .out .now) (a .desk) (h .0) (a .question) (a .end) (h .3) (h .4 .outLong) (c .before .before .before .before .before .before .before .before .before .before .before .before .before .before .before .before .before .lent-to .result) (numbered (c .before .before .before .before .before .before .before .before .before .before .before .before .before .ask-lent .result)) (c .before .before .before .before .before .before .before .before .before .before .before .before .before .before .before .before .before .lent-to .ensures) (c .before .before .before .before .before .before .before .before .before .before .before .before .before .ask-lent .ensures) (c .before .before .before .before .before .before .before .append-answer-line .ensures) (c .before .before .before .before .left-after .ensures) (sym (c .before .before .before .sets-rows .ensures) ∙ c .before .before .if1 .left) (c .set-left2 .ensures)
 
 pub answer-spec : {M : Type 1} → statement M
 answer-spec =

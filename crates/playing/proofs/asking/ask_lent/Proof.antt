@@ -30,7 +30,9 @@ same-length-2 : tie.Need-same-length-2
 same-length-2 c = search needs
 
 returns : tie.Need-returns
-returns c = lends (contractAt (c .before .before .before .before .before .before .before .before .before .before .args .desk) (c .before .before .before .before .before .before .before .before .before .before .args .numbers .now)) (c .before .before .before .before .before .before .before .before .before .before .args .question) _ (c .before .before .before .before .before .before .before .before .before .before .args .rows .now) (c .before .before .before .before .before .before .before .before .before .before .args .words .now) (c .before .before .before .before .before .before .before .before .before .before .args .lent) (numbered (c .before .before .before .before .ask-afresh .result)) _ _ (c .before .before .before .before .before .before .before .before .before .before .pre .3) (c .before .before .before .before .before .before .before .before .before .before .pre .4) (c .before .before .before .before .ask-afresh .ensures) (c .before .before .before .before .ask-afresh .kept .1 .1 .1 .1 .0) (c .before .before .before .before .ask-afresh .kept .1 .1 .1 .1 .1 .0)
+returns c =
+    let a = c .before .before .before .before .before .before .before .before .before .before .args in
+    lends (contractAt (a .desk) (a .numbers .now)) (a .question) _ (a .rows .now) (a .words .now) (a .lent) (numbered (c .before .before .before .before .ask-afresh .result)) _ _ (c .before .before .before .before .before .before .before .before .before .before .pre .3) (c .before .before .before .before .before .before .before .before .before .before .pre .4) (c .before .before .before .before .ask-afresh .ensures) (c .before .before .before .before .ask-afresh .kept .1 .1 .1 .1 .0) (c .before .before .before .before .ask-afresh .kept .1 .1 .1 .1 .1 .0)
 
 pub ask-lent-spec : {M : Type 1} → statement M
 ask-lent-spec =

@@ -7,7 +7,7 @@ with-size-requires : tie.Need-with-size-requires
 with-size-requires c κs = search needs
 
 returns : tie.Need-returns
-returns c = rw (c .before .before .with-size .ensures)
+returns c = rw (c .with-size .ensures)
 
 pub set-size-spec : {M : Type 1} → statement M
 set-size-spec = tie.close (tie.spec with-size-requires returns)

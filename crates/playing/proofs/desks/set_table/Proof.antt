@@ -7,7 +7,7 @@ with-table-requires : tie.Need-with-table-requires
 with-table-requires c κs = search needs
 
 returns : tie.Need-returns
-returns c = rw (c .before .with-table .ensures)
+returns c = rw (c .with-table .ensures)
 
 pub set-table-spec : {M : Type 1} → statement M
 set-table-spec = tie.close (tie.spec with-table-requires returns)

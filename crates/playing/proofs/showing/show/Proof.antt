@@ -79,51 +79,61 @@ same-length : tie.Need-same-length
 same-length c = search needs
 
 returns-2 : tie.Need-returns-2
-returns-2 c = rw (c .before .before .before .before .before .before .left .given .1)
+returns-2 c =
+    let a = c .before .before .before .before .before .before .before .before .before .before .before .args in
+    rw (c .before .before .before .before .before .before .left .given .1)
     (let f = rw (c .before .before .before .before .before .before .left .given .1) at (c .before .before .before .before .before .before .before .before .before .before .before .pre .0) in
     let b = c .before .before .before .before .before .before .before .before .before .before .before .pre .1 in
-    let short : length (line (phrases.rows ++ spaced (take (c .before .before .before .before .before .before .left .given .0 .0) (c .before .before .before .before .before .before .before .before .before .before .before .args .rows .now)))) ≤ length (c .before .before .before .before .before .before .before .before .before .before .before .args .out .now) = omega (arith, f, b .rowsLong, b .wordsLong, b .outLong, list-line phrases.rows (take (c .before .before .before .before .before .before .left .given .0 .0) (c .before .before .before .before .before .before .before .before .before .before .before .args .rows .now)), length-take (c .before .before .before .before .before .before .left .given .0 .0) (c .before .before .before .before .before .before .before .before .before .before .before .args .rows .now)) in
-    (one-line (c .before .before .before .before .before .before .before .before .before .before .before .args .out .now) (phrases.rows ++ spaced (take (c .before .before .before .before .before .before .left .given .0 .0) (c .before .before .before .before .before .before .before .before .before .before .before .args .rows .now))) (c .before .before .rows-line .ensures) short, one-fits (c .before .before .before .before .before .before .before .before .before .before .before .args .out .now) (phrases.rows ++ spaced (take (c .before .before .before .before .before .before .left .given .0 .0) (c .before .before .before .before .before .before .before .before .before .before .before .args .rows .now))) (c .before .before .rows-line .ensures) short))
+    let short : length (line (phrases.rows ++ spaced (take (c .before .before .before .before .before .before .left .given .0 .0) (a .rows .now)))) ≤ length (a .out .now) = omega (arith, f, b .rowsLong, b .wordsLong, b .outLong, list-line phrases.rows (take (c .before .before .before .before .before .before .left .given .0 .0) (a .rows .now)), length-take (c .before .before .before .before .before .before .left .given .0 .0) (a .rows .now)) in
+    (one-line (a .out .now) (phrases.rows ++ spaced (take (c .before .before .before .before .before .before .left .given .0 .0) (a .rows .now))) (c .before .before .rows-line .ensures) short, one-fits (a .out .now) (phrases.rows ++ spaced (take (c .before .before .before .before .before .before .left .given .0 .0) (a .rows .now))) (c .before .before .rows-line .ensures) short))
 
 same-length-2 : tie.Need-same-length-2
 same-length-2 c = search needs
 
 returns-3 : tie.Need-returns-3
-returns-3 c = rw (c .before .before .before .before .before .before .left2 .given .1)
+returns-3 c =
+    let a = c .before .before .before .before .before .before .before .before .before .before .before .args in
+    rw (c .before .before .before .before .before .before .left2 .given .1)
     (let f = rw (c .before .before .before .before .before .before .left2 .given .1) at (c .before .before .before .before .before .before .before .before .before .before .before .pre .0) in
     let b = c .before .before .before .before .before .before .before .before .before .before .before .pre .1 in
-    let short : length (line (phrases.words ++ spaced (take (c .before .before .before .before .before .before .left2 .given .0 .0) (c .before .before .before .before .before .before .before .before .before .before .before .args .words .now)))) ≤ length (c .before .before .before .before .before .before .before .before .before .before .before .args .out .now) = omega (arith, f, b .rowsLong, b .wordsLong, b .outLong, list-line phrases.words (take (c .before .before .before .before .before .before .left2 .given .0 .0) (c .before .before .before .before .before .before .before .before .before .before .before .args .words .now)), length-take (c .before .before .before .before .before .before .left2 .given .0 .0) (c .before .before .before .before .before .before .before .before .before .before .before .args .words .now)) in
-    (one-line (c .before .before .before .before .before .before .before .before .before .before .before .args .out .now) (phrases.words ++ spaced (take (c .before .before .before .before .before .before .left2 .given .0 .0) (c .before .before .before .before .before .before .before .before .before .before .before .args .words .now))) (c .before .before .words-line .ensures) short, one-fits (c .before .before .before .before .before .before .before .before .before .before .before .args .out .now) (phrases.words ++ spaced (take (c .before .before .before .before .before .before .left2 .given .0 .0) (c .before .before .before .before .before .before .before .before .before .before .before .args .words .now))) (c .before .before .words-line .ensures) short))
+    let short : length (line (phrases.words ++ spaced (take (c .before .before .before .before .before .before .left2 .given .0 .0) (a .words .now)))) ≤ length (a .out .now) = omega (arith, f, b .rowsLong, b .wordsLong, b .outLong, list-line phrases.words (take (c .before .before .before .before .before .before .left2 .given .0 .0) (a .words .now)), length-take (c .before .before .before .before .before .before .left2 .given .0 .0) (a .words .now)) in
+    (one-line (a .out .now) (phrases.words ++ spaced (take (c .before .before .before .before .before .before .left2 .given .0 .0) (a .words .now))) (c .before .before .words-line .ensures) short, one-fits (a .out .now) (phrases.words ++ spaced (take (c .before .before .before .before .before .before .left2 .given .0 .0) (a .words .now))) (c .before .before .words-line .ensures) short))
 
 same-length-3 : tie.Need-same-length-3
 same-length-3 c = search needs
 
 returns-4 : tie.Need-returns-4
-returns-4 c = rw (c .before .before .before .before .before .before .before .before .before .before .before .left3 .given .1)
+returns-4 c =
+    let a = c .before .before .before .before .before .before .before .before .before .before .before .before .before .before .before .before .args in
+    rw (c .before .before .before .before .before .before .before .before .before .before .before .left3 .given .1)
     (let f = rw (c .before .before .before .before .before .before .before .before .before .before .before .left3 .given .1) at (c .before .before .before .before .before .before .before .before .before .before .before .before .before .before .before .before .pre .0) in
     let b = c .before .before .before .before .before .before .before .before .before .before .before .before .before .before .before .before .pre .1 in
-    let short : length (line (phrases.rows ++ spaced (take (c .before .before .before .before .before .before .before .before .before .before .before .left3 .given .0 .0) (c .before .before .before .before .before .before .before .before .before .before .before .before .before .before .before .before .args .rows .now)))) + length (line (phrases.words ++ spaced (take (c .before .before .before .before .before .before .before .before .before .before .before .left3 .given .0 .1 .0) (c .before .before .before .before .before .before .before .before .before .before .before .before .before .before .before .before .args .words .now)))) ≤ length (c .before .before .before .before .before .before .before .before .before .before .before .before .before .before .before .before .args .out .now) = omega (arith, f, b .rowsLong, b .wordsLong, b .outLong, list-line phrases.rows (take (c .before .before .before .before .before .before .before .before .before .before .before .left3 .given .0 .0) (c .before .before .before .before .before .before .before .before .before .before .before .before .before .before .before .before .args .rows .now)), length-take (c .before .before .before .before .before .before .before .before .before .before .before .left3 .given .0 .0) (c .before .before .before .before .before .before .before .before .before .before .before .before .before .before .before .before .args .rows .now), list-line phrases.words (take (c .before .before .before .before .before .before .before .before .before .before .before .left3 .given .0 .1 .0) (c .before .before .before .before .before .before .before .before .before .before .before .before .before .before .before .before .args .words .now)), length-take (c .before .before .before .before .before .before .before .before .before .before .before .left3 .given .0 .1 .0) (c .before .before .before .before .before .before .before .before .before .before .before .before .before .before .before .before .args .words .now)) in
-    (two-lines (c .before .before .before .before .before .before .before .before .before .before .before .before .before .before .before .before .args .out .now) (phrases.rows ++ spaced (take (c .before .before .before .before .before .before .before .before .before .before .before .left3 .given .0 .0) (c .before .before .before .before .before .before .before .before .before .before .before .before .before .before .before .before .args .rows .now))) (phrases.words ++ spaced (take (c .before .before .before .before .before .before .before .before .before .before .before .left3 .given .0 .1 .0) (c .before .before .before .before .before .before .before .before .before .before .before .before .before .before .before .before .args .words .now))) (c .before .before .before .before .before .before .before .rows-line2 .ensures) (c .before .before .words-line2 .ensures) short, two-fit (c .before .before .before .before .before .before .before .before .before .before .before .before .before .before .before .before .args .out .now) (phrases.rows ++ spaced (take (c .before .before .before .before .before .before .before .before .before .before .before .left3 .given .0 .0) (c .before .before .before .before .before .before .before .before .before .before .before .before .before .before .before .before .args .rows .now))) (phrases.words ++ spaced (take (c .before .before .before .before .before .before .before .before .before .before .before .left3 .given .0 .1 .0) (c .before .before .before .before .before .before .before .before .before .before .before .before .before .before .before .before .args .words .now))) (c .before .before .before .before .before .before .before .rows-line2 .ensures) (c .before .before .words-line2 .ensures) short))
+    let short : length (line (phrases.rows ++ spaced (take (c .before .before .before .before .before .before .before .before .before .before .before .left3 .given .0 .0) (a .rows .now)))) + length (line (phrases.words ++ spaced (take (c .before .before .before .before .before .before .before .before .before .before .before .left3 .given .0 .1 .0) (a .words .now)))) ≤ length (a .out .now) = omega (arith, f, b .rowsLong, b .wordsLong, b .outLong, list-line phrases.rows (take (c .before .before .before .before .before .before .before .before .before .before .before .left3 .given .0 .0) (a .rows .now)), length-take (c .before .before .before .before .before .before .before .before .before .before .before .left3 .given .0 .0) (a .rows .now), list-line phrases.words (take (c .before .before .before .before .before .before .before .before .before .before .before .left3 .given .0 .1 .0) (a .words .now)), length-take (c .before .before .before .before .before .before .before .before .before .before .before .left3 .given .0 .1 .0) (a .words .now)) in
+    (two-lines (a .out .now) (phrases.rows ++ spaced (take (c .before .before .before .before .before .before .before .before .before .before .before .left3 .given .0 .0) (a .rows .now))) (phrases.words ++ spaced (take (c .before .before .before .before .before .before .before .before .before .before .before .left3 .given .0 .1 .0) (a .words .now))) (c .before .before .before .before .before .before .before .rows-line2 .ensures) (c .before .before .words-line2 .ensures) short, two-fit (a .out .now) (phrases.rows ++ spaced (take (c .before .before .before .before .before .before .before .before .before .before .before .left3 .given .0 .0) (a .rows .now))) (phrases.words ++ spaced (take (c .before .before .before .before .before .before .before .before .before .before .before .left3 .given .0 .1 .0) (a .words .now))) (c .before .before .before .before .before .before .before .rows-line2 .ensures) (c .before .before .words-line2 .ensures) short))
 
 same-length-4 : tie.Need-same-length-4
 same-length-4 c = search needs
 
 returns-5 : tie.Need-returns-5
-returns-5 c = rw (c .before .before .before .before .before .before .left4 .given .1)
+returns-5 c =
+    let a = c .before .before .before .before .before .before .before .before .before .before .before .args in
+    rw (c .before .before .before .before .before .before .left4 .given .1)
     (let f = rw (c .before .before .before .before .before .before .left4 .given .1) at (c .before .before .before .before .before .before .before .before .before .before .before .pre .0) in
     let b = c .before .before .before .before .before .before .before .before .before .before .before .pre .1 in
-    let short : length (line (phrases.rows ++ spaced (untouched (c .before .before .before .before .before .before .left4 .given .0 .0)))) ≤ length (c .before .before .before .before .before .before .before .before .before .before .before .args .out .now) = omega (arith, f, b .rowsLong, b .wordsLong, b .outLong, sevens-length phrases.rows (c .before .before .before .before .before .before .left4 .given .0 .0)) in
-    (one-line (c .before .before .before .before .before .before .before .before .before .before .before .args .out .now) (phrases.rows ++ spaced (untouched (c .before .before .before .before .before .before .left4 .given .0 .0))) (c .before .before .sevens-line .ensures) short, one-fits (c .before .before .before .before .before .before .before .before .before .before .before .args .out .now) (phrases.rows ++ spaced (untouched (c .before .before .before .before .before .before .left4 .given .0 .0))) (c .before .before .sevens-line .ensures) short))
+    let short : length (line (phrases.rows ++ spaced (untouched (c .before .before .before .before .before .before .left4 .given .0 .0)))) ≤ length (a .out .now) = omega (arith, f, b .rowsLong, b .wordsLong, b .outLong, sevens-length phrases.rows (c .before .before .before .before .before .before .left4 .given .0 .0)) in
+    (one-line (a .out .now) (phrases.rows ++ spaced (untouched (c .before .before .before .before .before .before .left4 .given .0 .0))) (c .before .before .sevens-line .ensures) short, one-fits (a .out .now) (phrases.rows ++ spaced (untouched (c .before .before .before .before .before .before .left4 .given .0 .0))) (c .before .before .sevens-line .ensures) short))
 
 same-length-5 : tie.Need-same-length-5
 same-length-5 c = search needs
 
 returns-6 : tie.Need-returns-6
-returns-6 c = rw (c .before .before .before .before .before .before .before .before .before .before .before .left5 .given .1)
+returns-6 c =
+    let a = c .before .before .before .before .before .before .before .before .before .before .before .before .before .before .before .before .args in
+    rw (c .before .before .before .before .before .before .before .before .before .before .before .left5 .given .1)
     (let f = rw (c .before .before .before .before .before .before .before .before .before .before .before .left5 .given .1) at (c .before .before .before .before .before .before .before .before .before .before .before .before .before .before .before .before .pre .0) in
     let b = c .before .before .before .before .before .before .before .before .before .before .before .before .before .before .before .before .pre .1 in
-    let short : length (line (phrases.rows ++ spaced (untouched (c .before .before .before .before .before .before .before .before .before .before .before .left5 .given .0 .0)))) + length (line (phrases.words ++ spaced (untouched (c .before .before .before .before .before .before .before .before .before .before .before .left5 .given .0 .1 .0)))) ≤ length (c .before .before .before .before .before .before .before .before .before .before .before .before .before .before .before .before .args .out .now) = omega (arith, f, b .rowsLong, b .wordsLong, b .outLong, sevens-length phrases.rows (c .before .before .before .before .before .before .before .before .before .before .before .left5 .given .0 .0), sevens-length phrases.words (c .before .before .before .before .before .before .before .before .before .before .before .left5 .given .0 .1 .0)) in
-    (two-lines (c .before .before .before .before .before .before .before .before .before .before .before .before .before .before .before .before .args .out .now) (phrases.rows ++ spaced (untouched (c .before .before .before .before .before .before .before .before .before .before .before .left5 .given .0 .0))) (phrases.words ++ spaced (untouched (c .before .before .before .before .before .before .before .before .before .before .before .left5 .given .0 .1 .0))) (c .before .before .before .before .before .before .before .sevens-line2 .ensures) (c .before .before .sevens-line3 .ensures) short, two-fit (c .before .before .before .before .before .before .before .before .before .before .before .before .before .before .before .before .args .out .now) (phrases.rows ++ spaced (untouched (c .before .before .before .before .before .before .before .before .before .before .before .left5 .given .0 .0))) (phrases.words ++ spaced (untouched (c .before .before .before .before .before .before .before .before .before .before .before .left5 .given .0 .1 .0))) (c .before .before .before .before .before .before .before .sevens-line2 .ensures) (c .before .before .sevens-line3 .ensures) short))
+    let short : length (line (phrases.rows ++ spaced (untouched (c .before .before .before .before .before .before .before .before .before .before .before .left5 .given .0 .0)))) + length (line (phrases.words ++ spaced (untouched (c .before .before .before .before .before .before .before .before .before .before .before .left5 .given .0 .1 .0)))) ≤ length (a .out .now) = omega (arith, f, b .rowsLong, b .wordsLong, b .outLong, sevens-length phrases.rows (c .before .before .before .before .before .before .before .before .before .before .before .left5 .given .0 .0), sevens-length phrases.words (c .before .before .before .before .before .before .before .before .before .before .before .left5 .given .0 .1 .0)) in
+    (two-lines (a .out .now) (phrases.rows ++ spaced (untouched (c .before .before .before .before .before .before .before .before .before .before .before .left5 .given .0 .0))) (phrases.words ++ spaced (untouched (c .before .before .before .before .before .before .before .before .before .before .before .left5 .given .0 .1 .0))) (c .before .before .before .before .before .before .before .sevens-line2 .ensures) (c .before .before .sevens-line3 .ensures) short, two-fit (a .out .now) (phrases.rows ++ spaced (untouched (c .before .before .before .before .before .before .before .before .before .before .before .left5 .given .0 .0))) (phrases.words ++ spaced (untouched (c .before .before .before .before .before .before .before .before .before .before .before .left5 .given .0 .1 .0))) (c .before .before .before .before .before .before .before .sevens-line2 .ensures) (c .before .before .sevens-line3 .ensures) short))
 
 pub show-spec : {M : Type 1} → statement M
 show-spec =

@@ -45,10 +45,16 @@ answered-requires-2 : tie.Need-answered-requires-2
 answered-requires-2 c κs = search needs
 
 returns : tie.Need-returns
-returns c = (λ text. plays-table (labelOf text (c .before .before .before .before .before .before .before .before .args .label)) (c .before .before .before .before .before .before .before .before .args .numbers .now) (c .before .before .before .before .before .before .before .before .args .rows .now) (c .before .before .before .before .before .before .before .before .args .words .now) (c .before .before .before .before .before .before .before .before .args .out .now) text (c .before .before .before .before .before .before .before .before .args .desk) (c .before .before .before .before .before .before .before .before .pre .0) (c .before .before .before .before .before .before .before .before .args .count) (c .before .before .before .before .before .before .before .before .pre .1) (c .before .before .before .before .before .before .before .before .pre .2) (c .before .before .listed .given .1) (c .set-table .ensures), refl)
+returns c =
+    let h = c .before .before .before .before .before .before .before .before .pre in
+    let a = c .before .before .before .before .before .before .before .before .args in
+    (λ text. plays-table (labelOf text (a .label)) (a .numbers .now) (a .rows .now) (a .words .now) (a .out .now) text (a .desk) (h .0) (a .count) (h .1) (h .2) (c .before .before .listed .given .1) (c .set-table .ensures), refl)
 
 returns-2 : tie.Need-returns-2
-returns-2 c = (λ text. plays-rows (labelOf text (c .before .before .before .before .before .before .before .args .label)) (c .before .before .before .before .before .before .before .args .numbers .now) (c .before .before .before .before .before .before .before .args .rows .now) (c .before .before .before .before .before .before .before .args .words .now) (c .before .before .before .before .before .before .before .args .out .now) text (c .before .before .before .before .before .before .before .args .desk) (c .before .before .before .before .before .before .before .pre .0) (c .before .before .before .before .before .before .before .args .count) (c .before .before .before .before .before .before .before .pre .1) (c .before .before .before .before .before .before .before .pre .2) (c .before .enum-told .given .1) (c .set-rows .ensures), refl)
+returns-2 c =
+    let h = c .before .before .before .before .before .before .before .pre in
+    let a = c .before .before .before .before .before .before .before .args in
+    (λ text. plays-rows (labelOf text (a .label)) (a .numbers .now) (a .rows .now) (a .words .now) (a .out .now) text (a .desk) (h .0) (a .count) (h .1) (h .2) (c .before .enum-told .given .1) (c .set-rows .ensures), refl)
 
 same-length : tie.Need-same-length
 same-length c = search needs
@@ -63,7 +69,9 @@ same-length-4 : tie.Need-same-length-4
 same-length-4 c = search needs
 
 returns-3 : tie.Need-returns-3
-returns-3 c = (λ text. plays-as text (c .before .before .before .before .before .before .before .before .before .before .before .before .before .before .before .before .before .before .before .before .args .label) (c .before .before .before .before .before .before .before .before .before .answer .result) (c .answered .ensures) (step-judge (stateOf (labelOf text (c .before .before .before .before .before .before .before .before .before .before .before .before .before .before .before .before .before .before .before .before .args .label)) (c .before .before .before .before .before .before .before .before .before .before .before .before .before .before .before .before .before .before .before .before .args .desk) (c .before .before .before .before .before .before .before .before .before .before .before .before .before .before .before .before .before .before .before .before .args .numbers .now) (c .before .before .before .before .before .before .before .before .before .before .before .before .before .before .before .before .before .before .before .before .args .rows .now) (c .before .before .before .before .before .before .before .before .before .before .before .before .before .before .before .before .before .before .before .before .args .words .now)) text (c .before .before .before .before .before .before .before .before .before .before .before .before .before .before .before .before .before .before .before .before .args .count) (stretch (c .before .before .before .before .before .before .before .before .before .before .before .before .before .before .before .before .before .before .before .before .args .numbers .now) (span (c .before .before .before .before .before .before .before .before .before .before .before .before .before .before .before .before .before .before .before .before .args .desk .used) (c .before .before .before .before .before .before .before .before .before .before .before .before .before .before .before .before .before .before .before .before .args .desk .used + c .before .before .before .before .before .before .before .before .before .before .before .before .before .before .before .before .before .before .before .before .args .count))) (c .before .before .before .before .before .before .before .before .before .before .before .before .before .before .enum-told2 .given .1)) (c .before .before .before .before .before .before .before .before .before .answer .ensures (labelOf text (c .before .before .before .before .before .before .before .before .before .before .before .before .before .before .before .before .before .before .before .before .args .label))), ap (λ (x : Done). x .label) (c .answered .ensures))
+returns-3 c =
+    let a = c .before .before .before .before .before .before .before .before .before .before .before .before .before .before .before .before .before .before .before .before .args in
+    (λ text. plays-as text (a .label) (c .before .before .before .before .before .before .before .before .before .answer .result) (c .answered .ensures) (step-judge (stateOf (labelOf text (a .label)) (a .desk) (a .numbers .now) (a .rows .now) (a .words .now)) text (a .count) (stretch (a .numbers .now) (span (a .desk .used) (a .desk .used + a .count))) (c .before .before .before .before .before .before .before .before .before .before .before .before .before .before .enum-told2 .given .1)) (c .before .before .before .before .before .before .before .before .before .answer .ensures (labelOf text (a .label))), ap (λ (x : Done). x .label) (c .answered .ensures))
 
 same-length-5 : tie.Need-same-length-5
 same-length-5 c = search needs
@@ -78,7 +86,9 @@ same-length-8 : tie.Need-same-length-8
 same-length-8 c = search needs
 
 returns-4 : tie.Need-returns-4
-returns-4 c = (λ text. plays-as text (c .before .before .before .before .before .before .before .before .before .before .before .before .before .before .before .before .before .before .before .before .before .before .args .label) (c .before .before .before .before .before .before .before .before .before .answer2 .result) (c .answered2 .ensures) (step-run (stateOf (labelOf text (c .before .before .before .before .before .before .before .before .before .before .before .before .before .before .before .before .before .before .before .before .before .before .args .label)) (c .before .before .before .before .before .before .before .before .before .before .before .before .before .before .before .before .before .before .before .before .before .before .args .desk) (c .before .before .before .before .before .before .before .before .before .before .before .before .before .before .before .before .before .before .before .before .before .before .args .numbers .now) (c .before .before .before .before .before .before .before .before .before .before .before .before .before .before .before .before .before .before .before .before .before .before .args .rows .now) (c .before .before .before .before .before .before .before .before .before .before .before .before .before .before .before .before .before .before .before .before .before .before .args .words .now)) text (c .before .before .before .before .before .before .before .before .before .before .before .before .before .before .before .before .before .before .before .before .before .before .args .count) (stretch (c .before .before .before .before .before .before .before .before .before .before .before .before .before .before .before .before .before .before .before .before .before .before .args .numbers .now) (span (c .before .before .before .before .before .before .before .before .before .before .before .before .before .before .before .before .before .before .before .before .before .before .args .desk .used) (c .before .before .before .before .before .before .before .before .before .before .before .before .before .before .before .before .before .before .before .before .before .before .args .desk .used + c .before .before .before .before .before .before .before .before .before .before .before .before .before .before .before .before .before .before .before .before .before .before .args .count))) (c .before .before .before .before .before .before .before .before .before .before .before .before .before .before .before .before .listed2 .given .1) (c .before .before .before .before .before .before .before .before .before .before .before .before .before .before .wide .ensures .0)) (c .before .before .before .before .before .before .before .before .before .answer2 .ensures (labelOf text (c .before .before .before .before .before .before .before .before .before .before .before .before .before .before .before .before .before .before .before .before .before .before .args .label))), ap (λ (x : Done). x .label) (c .answered2 .ensures))
+returns-4 c =
+    let a = c .before .before .before .before .before .before .before .before .before .before .before .before .before .before .before .before .before .before .before .before .before .before .args in
+    (λ text. plays-as text (a .label) (c .before .before .before .before .before .before .before .before .before .answer2 .result) (c .answered2 .ensures) (step-run (stateOf (labelOf text (a .label)) (a .desk) (a .numbers .now) (a .rows .now) (a .words .now)) text (a .count) (stretch (a .numbers .now) (span (a .desk .used) (a .desk .used + a .count))) (c .before .before .before .before .before .before .before .before .before .before .before .before .before .before .before .before .listed2 .given .1) (c .before .before .before .before .before .before .before .before .before .before .before .before .before .before .wide .ensures .0)) (c .before .before .before .before .before .before .before .before .before .answer2 .ensures (labelOf text (a .label))), ap (λ (x : Done). x .label) (c .answered2 .ensures))
 
 pub do-list-spec : {M : Type 1} → statement M
 do-list-spec =

@@ -35,7 +35,9 @@ enum-known-statement-3 : tie.Need-enum-known-statement-3
 enum-known-statement-3 c = search needs
 
 do-list-requires : tie.Need-do-list-requires
-do-list-requires c κs = (c .before .before .before .before .before .before .before .before .before .before .before .before .pre .0, rw (c .before .before .before .before .before .statement3 .given .1) at (c .before .before .before .before .before .before .before .before .before .before .before .before .pre .1), c .before .before .before .before .before .before .before .before .before .before .before .before .pre .2, c .before .before .before .before .before .before .before .before .before .before .before .before .pre .3)
+do-list-requires c κs =
+    let h = c .before .before .before .before .before .before .before .before .before .before .before .before .pre in
+    (h .0, rw (c .before .before .before .before .before .statement3 .given .1) at (h .1), h .2, h .3)
 
 enum-told-3 : tie.Need-enum-told-3
 enum-told-3 c = search needs
@@ -53,7 +55,9 @@ wide-requires-2 : tie.Need-wide-requires-2
 wide-requires-2 c κs = search needs
 
 answer-requires-2 : tie.Need-answer-requires-2
-answer-requires-2 c κs = (c .before .before .before .before .before .before .before .before .before .before .before .before .before .pre .0, omega arith, omega (arith, c .before .before .before .before .before .before .before .before .before .before .before .before .before .pre .1), c .before .before .before .before .wide2 .ensures .1, c .before .before .before .before .before .before .before .before .before .before .before .before .before .pre .3)
+answer-requires-2 c κs =
+    let h = c .before .before .before .before .before .before .before .before .before .before .before .before .before .pre in
+    (h .0, omega arith, omega (arith, h .1), c .before .before .before .before .wide2 .ensures .1, h .3)
 
 answered-requires-2 : tie.Need-answered-requires-2
 answered-requires-2 c κs = search needs
@@ -74,7 +78,9 @@ slice-aggregate-write : tie.Need-slice-aggregate-write
 slice-aggregate-write c = sym (length-take-le _ _ (omega (arith, c .before .before .before .wide3 .ensures .1, c .before .before .before .before .before .before .before .before .before .before .before .before .before .pre .4)))
 
 write-requires : tie.Need-write-requires
-write-requires c κs = (inside-more (omega (arith, c .before .before .before .before .before .before .before .before .before .before .before .before .before .before .pre .1)) (c .before .before .before .before .before .before .before .before .before .before .before .before .before .before .pre .0 .rows), simp length-take (omega (arith, c .before .before .before .before .wide3 .ensures .1)), c .before .before .before .before .before .before .before .before .before .before .before .before .before .before .pre .3 .outLong)
+write-requires c κs =
+    let h = c .before .before .before .before .before .before .before .before .before .before .before .before .before .before .pre in
+    (inside-more (omega (arith, h .1)) (h .0 .rows), simp length-take (omega (arith, c .before .before .before .before .wide3 .ensures .1)), h .3 .outLong)
 
 enum-told-4 : tie.Need-enum-told-4
 enum-told-4 c = search needs
@@ -83,16 +89,24 @@ show-requires : tie.Need-show-requires
 show-requires c κs = search needs
 
 returns : tie.Need-returns
-returns c = (λ text. plays-end (labelOf text (c .before .before .before .before .before .before .before .args .label)) (c .before .before .before .before .before .before .before .args .numbers .now) (c .before .before .before .before .before .before .before .args .rows .now) (c .before .before .before .before .before .before .before .args .words .now) (c .before .before .before .before .before .before .before .args .out .now) text (c .before .before .before .before .before .before .before .args .desk) (c .before .before .before .before .before .before .before .pre .0) (stretch (c .before .before .before .before .before .before .before .args .numbers .now) (span (c .before .before .before .before .before .before .before .args .desk .used) (c .before .before .before .before .before .before .before .args .desk .used + countOf (c .before .before .before .before .before .before .before .args .statement)))) (c .enum-told .given .1), rw (c .enum-told .given .1))
+returns c =
+    let a = c .before .before .before .before .before .before .before .args in
+    (λ text. plays-end (labelOf text (a .label)) (a .numbers .now) (a .rows .now) (a .words .now) (a .out .now) text (a .desk) (c .before .before .before .before .before .before .before .pre .0) (stretch (a .numbers .now) (span (a .desk .used) (a .desk .used + countOf (a .statement)))) (c .enum-told .given .1), rw (c .enum-told .given .1))
 
 returns-2 : tie.Need-returns-2
-returns-2 c = (λ text. plays-fault (labelOf text (c .before .before .before .before .before .before .before .args .label)) (c .before .before .before .before .before .before .before .args .numbers .now) (c .before .before .before .before .before .before .before .args .rows .now) (c .before .before .before .before .before .before .before .args .words .now) (c .before .before .before .before .before .before .before .args .out .now) text (c .before .before .before .before .before .before .before .args .desk) (c .before .before .before .before .before .before .before .pre .0) (stretch (c .before .before .before .before .before .before .before .args .numbers .now) (span (c .before .before .before .before .before .before .before .args .desk .used) (c .before .before .before .before .before .before .before .args .desk .used + countOf (c .before .before .before .before .before .before .before .args .statement)))) (c .enum-told2 .given .1), rw (c .enum-told2 .given .1))
+returns-2 c =
+    let a = c .before .before .before .before .before .before .before .args in
+    (λ text. plays-fault (labelOf text (a .label)) (a .numbers .now) (a .rows .now) (a .words .now) (a .out .now) text (a .desk) (c .before .before .before .before .before .before .before .pre .0) (stretch (a .numbers .now) (span (a .desk .used) (a .desk .used + countOf (a .statement)))) (c .enum-told2 .given .1), rw (c .enum-told2 .given .1))
 
 returns-3 : tie.Need-returns-3
-returns-3 c = (λ text. plays-case (labelOf text (c .before .before .before .before .before .before .before .before .args .label)) (c .before .before .before .before .before .before .before .before .args .numbers .now) (c .before .before .before .before .before .before .before .before .args .rows .now) (c .before .before .before .before .before .before .before .before .args .words .now) (c .before .before .before .before .before .before .before .before .args .out .now) text (c .before .before .before .before .before .before .before .before .args .desk) (c .before .before .before .before .before .before .before .before .pre .0) (stretch (c .before .before .before .before .before .before .before .before .args .numbers .now) (span (c .before .before .before .before .before .before .before .before .args .desk .used) (c .before .before .before .before .before .before .before .before .args .desk .used + countOf (c .before .before .before .before .before .before .before .before .args .statement)))) (c .before .statement .given .1), rw (c .before .statement .given .1))
+returns-3 c =
+    let a = c .before .before .before .before .before .before .before .before .args in
+    (λ text. plays-case (labelOf text (a .label)) (a .numbers .now) (a .rows .now) (a .words .now) (a .out .now) text (a .desk) (c .before .before .before .before .before .before .before .before .pre .0) (stretch (a .numbers .now) (span (a .desk .used) (a .desk .used + countOf (a .statement)))) (c .before .statement .given .1), rw (c .before .statement .given .1))
 
 returns-4 : tie.Need-returns-4
-returns-4 c = (λ text. plays-size (labelOf text (c .before .before .before .before .before .before .before .before .before .before .args .label)) (c .before .before .before .before .before .before .before .before .before .before .args .numbers .now) (c .before .before .before .before .before .before .before .before .before .before .args .rows .now) (c .before .before .before .before .before .before .before .before .before .before .args .words .now) (c .before .before .before .before .before .before .before .before .before .before .args .out .now) text (c .before .before .before .before .before .before .before .before .before .before .args .desk) (c .before .before .before .before .before .before .before .before .before .before .pre .0) (stretch (c .before .before .before .before .before .before .before .before .before .before .args .numbers .now) (span (c .before .before .before .before .before .before .before .before .before .before .args .desk .used) (c .before .before .before .before .before .before .before .before .before .before .args .desk .used + countOf (c .before .before .before .before .before .before .before .before .before .before .args .statement)))) (c .before .before .before .statement2 .given .1) (c .before .wide .ensures .0) (c .set-size .ensures), rw (c .before .before .before .statement2 .given .1))
+returns-4 c =
+    let a = c .before .before .before .before .before .before .before .before .before .before .args in
+    (λ text. plays-size (labelOf text (a .label)) (a .numbers .now) (a .rows .now) (a .words .now) (a .out .now) text (a .desk) (c .before .before .before .before .before .before .before .before .before .before .pre .0) (stretch (a .numbers .now) (span (a .desk .used) (a .desk .used + countOf (a .statement)))) (c .before .before .before .statement2 .given .1) (c .before .wide .ensures .0) (c .set-size .ensures), rw (c .before .before .before .statement2 .given .1))
 
 same-length : tie.Need-same-length
 same-length c = search needs
@@ -122,7 +136,9 @@ same-length-8 : tie.Need-same-length-8
 same-length-8 c = search needs
 
 returns-6 : tie.Need-returns-6
-returns-6 c = (λ text. plays-as text (c .before .before .before .before .before .before .before .before .before .before .before .before .before .before .before .before .before .before .before .before .before .args .label) (c .before .before .before .before .before .before .before .before .before .answer .result) (c .answered .ensures) (step-admit (stateOf (labelOf text (c .before .before .before .before .before .before .before .before .before .before .before .before .before .before .before .before .before .before .before .before .before .args .label)) (c .before .before .before .before .before .before .before .before .before .before .before .before .before .before .before .before .before .before .before .before .before .args .desk) (c .before .before .before .before .before .before .before .before .before .before .before .before .before .before .before .before .before .before .before .before .before .args .numbers .now) (c .before .before .before .before .before .before .before .before .before .before .before .before .before .before .before .before .before .before .before .before .before .args .rows .now) (c .before .before .before .before .before .before .before .before .before .before .before .before .before .before .before .before .before .before .before .before .before .args .words .now)) text (stretch (c .before .before .before .before .before .before .before .before .before .before .before .before .before .before .before .before .before .before .before .before .before .args .numbers .now) (span (c .before .before .before .before .before .before .before .before .before .before .before .before .before .before .before .before .before .before .before .before .before .args .desk .used) (c .before .before .before .before .before .before .before .before .before .before .before .before .before .before .before .before .before .before .before .before .before .args .desk .used + countOf (c .before .before .before .before .before .before .before .before .before .before .before .before .before .before .before .before .before .before .before .before .before .args .statement)))) (stretch (c .before .before .before .before .before .before .before .before .before .before .before .before .before .before .before .before .before .before .before .before .before .args .numbers .now) (span (c .before .before .before .before .before .before .before .before .before .before .before .before .before .before .before .before .before .before .before .before .before .args .desk .used) (c .before .before .before .before .before .before .before .before .before .before .before .before .before .before .before .before .before .before .before .before .before .args .desk .used))) (c .before .before .before .before .before .before .before .before .before .before .before .before .before .before .enum-told3 .given .1)) (c .before .before .before .before .before .before .before .before .before .answer .ensures (labelOf text (c .before .before .before .before .before .before .before .before .before .before .before .before .before .before .before .before .before .before .before .before .before .args .label))), rw (c .before .before .before .before .before .before .before .before .before .before .before .before .before .before .enum-told3 .given .1) (ap (λ (x : Done). x .label) (c .answered .ensures)))
+returns-6 c =
+    let a = c .before .before .before .before .before .before .before .before .before .before .before .before .before .before .before .before .before .before .before .before .before .args in
+    (λ text. plays-as text (a .label) (c .before .before .before .before .before .before .before .before .before .answer .result) (c .answered .ensures) (step-admit (stateOf (labelOf text (a .label)) (a .desk) (a .numbers .now) (a .rows .now) (a .words .now)) text (stretch (a .numbers .now) (span (a .desk .used) (a .desk .used + countOf (a .statement)))) (stretch (a .numbers .now) (span (a .desk .used) (a .desk .used))) (c .before .before .before .before .before .before .before .before .before .before .before .before .before .before .enum-told3 .given .1)) (c .before .before .before .before .before .before .before .before .before .answer .ensures (labelOf text (a .label))), rw (c .before .before .before .before .before .before .before .before .before .before .before .before .before .before .enum-told3 .given .1) (ap (λ (x : Done). x .label) (c .answered .ensures)))
 
 same-length-9 : tie.Need-same-length-9
 same-length-9 c = search needs
@@ -137,7 +153,9 @@ same-length-12 : tie.Need-same-length-12
 same-length-12 c = search needs
 
 returns-7 : tie.Need-returns-7
-returns-7 c = (λ text. plays-as text (c .before .before .before .before .before .before .before .before .before .before .before .before .before .before .before .before .before .before .before .before .before .before .before .args .label) (c .before .before .before .before .before .before .before .before .before .answer2 .result) (c .answered2 .ensures) (step-check (stateOf (labelOf text (c .before .before .before .before .before .before .before .before .before .before .before .before .before .before .before .before .before .before .before .before .before .before .before .args .label)) (c .before .before .before .before .before .before .before .before .before .before .before .before .before .before .before .before .before .before .before .before .before .before .before .args .desk) (c .before .before .before .before .before .before .before .before .before .before .before .before .before .before .before .before .before .before .before .before .before .before .before .args .numbers .now) (c .before .before .before .before .before .before .before .before .before .before .before .before .before .before .before .before .before .before .before .before .before .before .before .args .rows .now) (c .before .before .before .before .before .before .before .before .before .before .before .before .before .before .before .before .before .before .before .before .before .before .before .args .words .now)) text (stretch (c .before .before .before .before .before .before .before .before .before .before .before .before .before .before .before .before .before .before .before .before .before .before .before .args .numbers .now) (span (c .before .before .before .before .before .before .before .before .before .before .before .before .before .before .before .before .before .before .before .before .before .before .before .args .desk .used) (c .before .before .before .before .before .before .before .before .before .before .before .before .before .before .before .before .before .before .before .before .before .before .before .args .desk .used + countOf (c .before .before .before .before .before .before .before .before .before .before .before .before .before .before .before .before .before .before .before .before .before .before .before .args .statement)))) (stretch (c .before .before .before .before .before .before .before .before .before .before .before .before .before .before .before .before .before .before .before .before .before .before .before .args .numbers .now) (span (c .before .before .before .before .before .before .before .before .before .before .before .before .before .before .before .before .before .before .before .before .before .before .before .args .desk .used) (c .before .before .before .before .before .before .before .before .before .before .before .before .before .before .before .before .before .before .before .before .before .before .before .args .desk .used))) (c .before .before .before .before .before .before .before .before .before .before .before .before .before .before .before .before .statement4 .given .1) (c .before .before .before .before .before .before .before .before .before .before .before .before .before .before .wide2 .ensures .0)) (c .before .before .before .before .before .before .before .before .before .answer2 .ensures (labelOf text (c .before .before .before .before .before .before .before .before .before .before .before .before .before .before .before .before .before .before .before .before .before .before .before .args .label))), rw (c .before .before .before .before .before .before .before .before .before .before .before .before .before .before .before .before .statement4 .given .1) (ap (λ (x : Done). x .label) (c .answered2 .ensures)))
+returns-7 c =
+    let a = c .before .before .before .before .before .before .before .before .before .before .before .before .before .before .before .before .before .before .before .before .before .before .before .args in
+    (λ text. plays-as text (a .label) (c .before .before .before .before .before .before .before .before .before .answer2 .result) (c .answered2 .ensures) (step-check (stateOf (labelOf text (a .label)) (a .desk) (a .numbers .now) (a .rows .now) (a .words .now)) text (stretch (a .numbers .now) (span (a .desk .used) (a .desk .used + countOf (a .statement)))) (stretch (a .numbers .now) (span (a .desk .used) (a .desk .used))) (c .before .before .before .before .before .before .before .before .before .before .before .before .before .before .before .before .statement4 .given .1) (c .before .before .before .before .before .before .before .before .before .before .before .before .before .before .wide2 .ensures .0)) (c .before .before .before .before .before .before .before .before .before .answer2 .ensures (labelOf text (a .label))), rw (c .before .before .before .before .before .before .before .before .before .before .before .before .before .before .before .before .statement4 .given .1) (ap (λ (x : Done). x .label) (c .answered2 .ensures)))
 
 same-length-13 : tie.Need-same-length-13
 same-length-13 c = search needs
@@ -149,7 +167,9 @@ same-length-15 : tie.Need-same-length-15
 same-length-15 c = search needs
 
 returns-8 : tie.Need-returns-8
-returns-8 c = (λ text. plays-write (labelOf text (c .before .before .before .before .before .before .before .before .before .before .before .before .before .before .before .before .before .before .before .args .label)) (c .before .before .before .before .before .before .before .before .before .before .before .before .before .before .before .before .before .before .before .args .numbers .now) (c .before .before .before .before .before .before .before .before .before .before .before .before .before .before .before .before .before .before .before .args .rows .now) (c .before .before .before .before .before .before .before .before .before .before .before .before .before .before .before .before .before .before .before .args .words .now) (c .before .before .before .before .write .last .1 .1 .1 .1 .0) text (c .before .before .before .before .before .before .before .before .before .before .before .before .before .before .before .before .before .before .before .args .desk) (c .before .before .before .before .before .before .before .before .before .before .before .before .before .before .before .before .before .before .before .pre .0) (stretch (c .before .before .before .before .before .before .before .before .before .before .before .before .before .before .before .before .before .before .before .args .numbers .now) (span (c .before .before .before .before .before .before .before .before .before .before .before .before .before .before .before .before .before .before .before .args .desk .used) (c .before .before .before .before .before .before .before .before .before .before .before .before .before .before .before .before .before .before .before .args .desk .used + countOf (c .before .before .before .before .before .before .before .before .before .before .before .before .before .before .before .before .before .before .before .args .statement)))) (take (c .before .before .before .before .before .before .before .before .before .wide3 .result) (c .before .before .before .before .before .before .before .before .before .before .before .before .before .before .before .before .before .before .before .args .tree .now)) (c .before .before .before .before .before .before .before .before .before .before .before .before .statement5 .given .1) (c .before .before .before .before .before .before .before .wide4 .ensures .0) (length-take-le _ _ (omega (arith, c .before .before .before .before .before .before .before .before .before .wide3 .ensures .1, c .before .before .before .before .before .before .before .before .before .before .before .before .before .before .before .before .before .before .before .pre .4))) (c .before .before .before .before .before .before .before .before .before .wide3 .ensures .0) (c .before .before .before .before .write .ensures .0) (c .before .before .before .before .write .ensures .1), rw (c .before .before .before .before .before .before .before .before .before .before .before .before .statement5 .given .1))
+returns-8 c =
+    let a = c .before .before .before .before .before .before .before .before .before .before .before .before .before .before .before .before .before .before .before .args in
+    (λ text. plays-write (labelOf text (a .label)) (a .numbers .now) (a .rows .now) (a .words .now) (c .before .before .before .before .write .last .1 .1 .1 .1 .0) text (a .desk) (c .before .before .before .before .before .before .before .before .before .before .before .before .before .before .before .before .before .before .before .pre .0) (stretch (a .numbers .now) (span (a .desk .used) (a .desk .used + countOf (a .statement)))) (take (c .before .before .before .before .before .before .before .before .before .wide3 .result) (a .tree .now)) (c .before .before .before .before .before .before .before .before .before .before .before .before .statement5 .given .1) (c .before .before .before .before .before .before .before .wide4 .ensures .0) (length-take-le _ _ (omega (arith, c .before .before .before .before .before .before .before .before .before .wide3 .ensures .1, c .before .before .before .before .before .before .before .before .before .before .before .before .before .before .before .before .before .before .before .pre .4))) (c .before .before .before .before .before .before .before .before .before .wide3 .ensures .0) (c .before .before .before .before .write .ensures .0) (c .before .before .before .before .write .ensures .1), rw (c .before .before .before .before .before .before .before .before .before .before .before .before .statement5 .given .1))
 
 same-length-16 : tie.Need-same-length-16
 same-length-16 c = search needs
@@ -161,7 +181,9 @@ same-length-18 : tie.Need-same-length-18
 same-length-18 c = search needs
 
 returns-9 : tie.Need-returns-9
-returns-9 c = (λ text. plays-show (labelOf text (c .before .before .before .before .before .before .before .before .before .before .before .before .before .args .label)) (c .before .before .before .before .before .before .before .before .before .before .before .before .before .args .numbers .now) (c .before .before .before .before .before .before .before .before .before .before .before .before .before .args .rows .now) (c .before .before .before .before .before .before .before .before .before .before .before .before .before .args .words .now) (c .before .before .show .last .1 .1 .1 .0) text (c .before .before .before .before .before .before .before .before .before .before .before .before .before .args .desk) (c .before .before .before .before .before .before .before .before .before .before .before .before .before .pre .0) (stretch (c .before .before .before .before .before .before .before .before .before .before .before .before .before .args .numbers .now) (span (c .before .before .before .before .before .before .before .before .before .before .before .before .before .args .desk .used) (c .before .before .before .before .before .before .before .before .before .before .before .before .before .args .desk .used + countOf (c .before .before .before .before .before .before .before .before .before .before .before .before .before .args .statement)))) (c .before .before .before .before .before .before .enum-told4 .given .1) (c .before .before .show .ensures .0) (c .before .before .show .ensures .1), rw (c .before .before .before .before .before .before .enum-told4 .given .1))
+returns-9 c =
+    let a = c .before .before .before .before .before .before .before .before .before .before .before .before .before .args in
+    (λ text. plays-show (labelOf text (a .label)) (a .numbers .now) (a .rows .now) (a .words .now) (c .before .before .show .last .1 .1 .1 .0) text (a .desk) (c .before .before .before .before .before .before .before .before .before .before .before .before .before .pre .0) (stretch (a .numbers .now) (span (a .desk .used) (a .desk .used + countOf (a .statement)))) (c .before .before .before .before .before .before .enum-told4 .given .1) (c .before .before .show .ensures .0) (c .before .before .show .ensures .1), rw (c .before .before .before .before .before .before .enum-told4 .given .1))
 
 pub do-statement-spec : {M : Type 1} → statement M
 do-statement-spec =

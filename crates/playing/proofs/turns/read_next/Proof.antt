@@ -23,7 +23,9 @@ same-length : tie.Need-same-length
 same-length c = search needs
 
 returns : tie.Need-returns
-returns c = read-back (c .before .before .before .before .before .before .args .text .now) (c .before .before .before .before .before .before .args .cut) (c .before .before .before .before .before .before .args .at) (c .before .before .before .before .before .before .args .used) (c .before .before .before .before .before .before .args .numbers .now) (c .before .before .read-statement .ensures .0) (c .before .before .read-statement .ensures .1)
+returns c =
+    let a = c .before .before .before .before .before .before .args in
+    read-back (a .text .now) (a .cut) (a .at) (a .used) (a .numbers .now) (c .before .before .read-statement .ensures .0) (c .before .before .read-statement .ensures .1)
 
 pub read-next-spec : {M : Type 1} → statement M
 read-next-spec =

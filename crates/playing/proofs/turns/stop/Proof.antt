@@ -47,9 +47,11 @@ same-length : tie.Need-same-length
 same-length c = search needs
 
 returns-2 : tie.Need-returns-2
-returns-2 c = rw (c .before .before .before .before .before .statement .given .1)
-    (let short : length (faultLine (c .before .before .before .before .before .before .before .before .before .args .text .now) (c .before .before .before .before .before .statement .given .0 .0)) ≤ length (c .before .before .before .before .before .before .before .before .before .args .out .now) = omega (arith, fault-short (c .before .before .before .before .before .before .before .before .before .args .text .now) (c .before .before .before .before .before .statement .given .0 .0), c .before .before .before .before .before .before .before .before .before .pre) in
-    ((λ label. appended-first (c .before .before .before .before .before .before .before .before .before .args .out .now) (faultLine (c .before .before .before .before .before .before .before .before .before .args .text .now) (c .before .before .before .before .before .statement .given .0 .0)) (c .before .before .append-fault .ensures) short), appended-within (c .before .before .before .before .before .before .before .before .before .args .out .now) (faultLine (c .before .before .before .before .before .before .before .before .before .args .text .now) (c .before .before .before .before .before .statement .given .0 .0)) (c .before .before .append-fault .ensures) short))
+returns-2 c =
+    let a = c .before .before .before .before .before .before .before .before .before .args in
+    rw (c .before .before .before .before .before .statement .given .1)
+    (let short : length (faultLine (a .text .now) (c .before .before .before .before .before .statement .given .0 .0)) ≤ length (a .out .now) = omega (arith, fault-short (a .text .now) (c .before .before .before .before .before .statement .given .0 .0), c .before .before .before .before .before .before .before .before .before .pre) in
+    ((λ label. appended-first (a .out .now) (faultLine (a .text .now) (c .before .before .before .before .before .statement .given .0 .0)) (c .before .before .append-fault .ensures) short), appended-within (a .out .now) (faultLine (a .text .now) (c .before .before .before .before .before .statement .given .0 .0)) (c .before .before .append-fault .ensures) short))
 
 returns-3 : tie.Need-returns-3
 returns-3 c = rw (c .enum-told2 .given .1) ((λ label. refl), tt)

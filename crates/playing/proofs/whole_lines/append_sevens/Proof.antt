@@ -31,10 +31,14 @@ loop-less : tie.Need-loop-less Inv-loop μ-loop
 loop-less c = omega arith
 
 loop-again : tie.Need-loop-again Inv-loop μ-loop
-loop-again c = sevens-more (c .before .before .before .before .before .before .before .before .args .out .now) (c .before .before .before .before .before .before .before .before .args .at) (c .before .before .before .before .before .before .before .before .args .count) (c .before .before .before .before .before .loop .inv) (omega arith) (c .before .before .append-behind-space .ensures)
+loop-again c =
+    let a = c .before .before .before .before .before .before .before .before .args in
+    sevens-more (a .out .now) (a .at) (a .count) (c .before .before .before .before .before .loop .inv) (omega arith) (c .before .before .append-behind-space .ensures)
 
 same-length : tie.Need-same-length Inv-loop μ-loop
-same-length c = listed-length (c .before .before .before .before .args .out .now) (c .before .before .before .before .args .at) (untouched (c .before .before .before .before .args .count)) (c .before .loop .inv)
+same-length c =
+    let a = c .before .before .before .before .args in
+    listed-length (a .out .now) (a .at) (untouched (a .count)) (c .before .loop .inv)
 
 returns : tie.Need-returns Inv-loop μ-loop
 returns c = let n : length (untouched (c .before .before .before .before .args .count)) ≡ c .before .before .before .before .args .count = length-replicate {A = ℕ} (c .before .before .before .before .args .count) 7 in listed-end (c .before .before .before .before .args .out .now) (c .before .before .before .before .args .at) (untouched (c .before .before .before .before .args .count)) (c .before .loop .inv) (omega arith)

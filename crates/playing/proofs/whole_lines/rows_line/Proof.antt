@@ -20,7 +20,9 @@ same-length : tie.Need-same-length
 same-length c = search needs
 
 returns : tie.Need-returns
-returns c = line-appended (c .before .before .before .before .before .before .before .before .before .before .before .before .before .before .args .out .now) (c .before .before .before .before .before .before .before .before .before .before .before .before .before .before .args .at) (phrases.rows ++ spaced (c .before .before .before .before .before .before .before .before .before .before .before .before .before .before .args .rows .now)) (c .before .before .before .before .before .before .before .before .before .before .append-byte .ensures) (c .before .before .before .before .before .before .append-rows .ensures) (c .before .before .append-byte2 .ensures)
+returns c =
+    let a = c .before .before .before .before .before .before .before .before .before .before .before .before .before .before .args in
+    line-appended (a .out .now) (a .at) (phrases.rows ++ spaced (a .rows .now)) (c .before .before .before .before .before .before .before .before .before .before .append-byte .ensures) (c .before .before .before .before .before .before .append-rows .ensures) (c .before .before .append-byte2 .ensures)
 
 pub rows-line-spec : {M : Type 1} → statement M
 rows-line-spec =

@@ -23,7 +23,9 @@ same-length : tie.Need-same-length
 same-length c = search needs
 
 returns : tie.Need-returns
-returns c = line-appended (c .before .before .before .before .before .before .before .before .before .before .before .before .before .before .before .before .before .before .args .out .now) (c .before .before .before .before .before .before .before .before .before .before .before .before .before .before .before .before .before .before .args .at) (c .before .before .before .before .before .before .before .before .before .before .before .before .before .before .before .before .before .before .args .word .now ++ spaced (untouched (c .before .before .before .before .before .before .before .before .before .before .before .before .before .before .before .before .before .before .args .count))) (c .before .before .before .before .before .before .before .before .before .before .before .before .before .before .append-byte .ensures) (appended-both _ _ (c .before .before .before .before .before .before .before .before .before .before .before .before .before .before .before .before .before .before .args .word .now) (spaced (untouched (c .before .before .before .before .before .before .before .before .before .before .before .before .before .before .before .before .before .before .args .count))) (c .before .before .before .before .before .before .before .before .before .before .append .ensures) (c .before .before .before .before .before .before .append-sevens .ensures)) (c .before .before .append-byte2 .ensures)
+returns c =
+    let a = c .before .before .before .before .before .before .before .before .before .before .before .before .before .before .before .before .before .before .args in
+    line-appended (a .out .now) (a .at) (a .word .now ++ spaced (untouched (a .count))) (c .before .before .before .before .before .before .before .before .before .before .before .before .before .before .append-byte .ensures) (appended-both _ _ (a .word .now) (spaced (untouched (a .count))) (c .before .before .before .before .before .before .before .before .before .before .append .ensures) (c .before .before .before .before .before .before .append-sevens .ensures)) (c .before .before .append-byte2 .ensures)
 
 pub sevens-line-spec : {M : Type 1} → statement M
 sevens-line-spec =

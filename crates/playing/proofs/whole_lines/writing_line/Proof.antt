@@ -19,7 +19,9 @@ same-length : tie.Need-same-length
 same-length c = search needs
 
 returns : tie.Need-returns
-returns c = line-appended (c .before .before .before .before .before .before .before .before .before .before .before .before .before .before .args .out .now) 0 (writtenText (record { answer = writingAnswer (c .before .before .before .before .before .before .before .before .before .before .before .before .before .before .args .answer); numbers = c .before .before .before .before .before .before .before .before .before .before .before .before .before .before .args .numbers .now })) (c .before .before .before .before .before .before .before .before .before .before .append-byte .ensures) (c .before .before .before .before .before .before .append-writing .ensures) (c .before .before .append-byte2 .ensures)
+returns c =
+    let a = c .before .before .before .before .before .before .before .before .before .before .before .before .before .before .args in
+    line-appended (a .out .now) 0 (writtenText (record { answer = writingAnswer (a .answer); numbers = a .numbers .now })) (c .before .before .before .before .before .before .before .before .before .before .append-byte .ensures) (c .before .before .before .before .before .before .append-writing .ensures) (c .before .before .append-byte2 .ensures)
 
 pub writing-line-spec : {M : Type 1} → statement M
 writing-line-spec =
