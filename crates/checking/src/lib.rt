@@ -1,7 +1,7 @@
 // Checking a contract: the answer, with the rows of the kinds and their words in the lent buffers.
 ghost use mathlib.Core.Path.{_≡_};
 ghost use Prim.Native.Nat.{ℕ, _+_, _*_, _^_, _<_, _≤_};
-ghost use lib.ListN.{length, replicate};
+ghost use lib.ListN.{length};
 ghost use Rattle.foundation.specs.Words.{word, one-if};
 ghost use Rattle.foundation.specs.Tests.{same};
 ghost use Rattle.foundation.specs.Search.{first};
@@ -35,53 +35,10 @@ use lanes::Layout;
 use layouts::layout_of;
 use layouts::offsets_of;
 use masks::all_masks;
-use reaching::few_lists;
 use reaching::fill_lists;
 use reaching::lists_length;
 use reaching::most_lists;
 use tables::Symbol;
-
-// Room for the masks of at most four symbols.
-fn few_masks() -> [u64; 20]
-    ensures { λ r. ⌜ r ≡ replicate 20 0 ⌝ }
-{
-    [0u64; 20]
-}
-
-// Room for the masks of as many symbols as there may be.
-fn most_masks() -> [u64; 80]
-    ensures { λ r. ⌜ r ≡ replicate 80 0 ⌝ }
-{
-    [0u64; 80]
-}
-
-// Room for the marks of at most sixty-four rows.
-fn few_marks() -> [u16; 64]
-    ensures { λ r. ⌜ r ≡ replicate 64 0 ⌝ }
-{
-    [0u16; 64]
-}
-
-// Room for the marks of as many rows as there may be.
-fn most_marks() -> [u16; 512]
-    ensures { λ r. ⌜ r ≡ replicate 512 0 ⌝ }
-{
-    [0u16; 512]
-}
-
-// Slots for few rows.
-fn few_hints() -> [u16; 128]
-    ensures { λ r. ⌜ r ≡ replicate 128 0 ⌝ }
-{
-    [0u16; 128]
-}
-
-// Slots for many rows.
-fn most_hints() -> [u16; 2048]
-    ensures { λ r. ⌜ r ≡ replicate 2048 0 ⌝ }
-{
-    [0u16; 2048]
-}
 
 // A word of states below q, with state q where it is in.
 fn with_state(states: u64, q: usize, is_in: bool) -> u64
@@ -124,14 +81,7 @@ fn wrong_size(limit: usize, rows: usize, words: usize) -> usize
     3
 }
 
-// The one slot of a table that names row 0.
-fn no_hints() -> [u16; 1]
-    ensures { λ r. ⌜ r ≡ replicate 1 0 ⌝ }
-{
-    [0u16; 1]
-}
-
-// Offers the kind of the empty forest to the empty list.
+// Offers the kind of the empty forest to the empty list; one slot names row 0.
 fn first_row(
     symbols: usize,
     input_states: usize,
@@ -163,7 +113,7 @@ fn first_row(
         nodes,
         rules,
     );
-    let mut hints = no_hints();
+    let mut hints = [0u16; 1];
     let offered = offer(
         verdicts,
         limit,
@@ -179,7 +129,7 @@ fn first_row(
     after_offer(offered, 0)
 }
 
-// Goes on with the rounds where the rows outgrew the tables for few.
+// Goes on with the rounds, with tables for as many rows as there may be, where the rows outgrew those for few.
 fn many_rounds(
     symbols: usize,
     input_states: usize,
@@ -205,9 +155,9 @@ fn many_rounds(
     requires { ⌜ Stage (contract symbols «input_states» (layout .states) (now counts) (now «input_rows») (now «input_marks») (now «output_table») (now «output_marks») (now nodes) (now rules)) (layoutOf layout) (now offsets) (now lists) (verdicts .accepted) (verdicts .refused) × Covered (contract symbols «input_states» (layout .states) (now counts) (now «input_rows») (now «input_marks») (now «output_table») (now «output_marks») (now nodes) (now rules)) (now «left_masks») (now «right_masks») × (5 * symbols ≤ length (now «left_masks»)) × (5 * symbols ≤ length (now «right_masks»)) × Between (contract symbols «input_states» (layout .states) (now counts) (now «input_rows») (now «input_marks») (now «output_table») (now «output_marks») (now nodes) (now rules)) limit before stood (now rows) (now words) ⌝ }
     ensures { λ r. ⌜ Outcome (contract symbols «input_states» (layout .states) (now (counts .entry)) (now («input_rows» .entry)) (now («input_marks» .entry)) (now («output_table» .entry)) (now («output_marks» .entry)) (now (nodes .entry)) (now (rules .entry))) (λ (n : ℕ). Passed (contract symbols «input_states» (layout .states) (now (counts .entry)) (now («input_rows» .entry)) (now («input_marks» .entry)) (now («output_table» .entry)) (now («output_marks» .entry)) (now (nodes .entry)) (now (rules .entry))) limit n (now (rows .exit)) (now (words .exit))) limit (now (rows .exit)) (now (words .exit)) r ⌝ }
 {
-    let mut lefts = most_marks();
-    let mut rights = most_marks();
-    let mut hints = most_hints();
+    let mut lefts = [0u16; 512];
+    let mut rights = [0u16; 512];
+    let mut hints = [0u16; 2048];
     let rounds = all_rounds(
         symbols,
         input_states,
@@ -236,7 +186,7 @@ fn many_rounds(
     rounds.ended
 }
 
-// Makes the masks, and lists the kinds from round 0 on, first with tables for few rows.
+// Makes the masks, and lists the kinds from round 0 on, first with tables for sixty-four rows.
 fn list_rounds(
     symbols: usize,
     input_states: usize,
@@ -276,9 +226,9 @@ fn list_rounds(
         left_masks,
         right_masks,
     );
-    let mut lefts = few_marks();
-    let mut rights = few_marks();
-    let mut hints = few_hints();
+    let mut lefts = [0u16; 64];
+    let mut rights = [0u16; 64];
+    let mut hints = [0u16; 128];
     let few = all_rounds(
         symbols,
         input_states,
@@ -335,7 +285,8 @@ fn list_rounds(
     ended
 }
 
-// Lists the kinds of a contract that is prepared, until the answer is known.
+// Lists the kinds of a contract that is prepared, until the answer is known. There is room for the masks of four symbols or of
+// as many as there may be.
 fn list_kinds(
     symbols: usize,
     input_states: usize,
@@ -379,8 +330,8 @@ fn list_kinds(
         return step;
     };
     if symbols <= 4 {
-        let mut left_masks = few_masks();
-        let mut right_masks = few_masks();
+        let mut left_masks = [0u64; 20];
+        let mut right_masks = [0u64; 20];
         return list_rounds(
             symbols,
             input_states,
@@ -402,8 +353,8 @@ fn list_kinds(
             words,
         );
     }
-    let mut left_masks = most_masks();
-    let mut right_masks = most_masks();
+    let mut left_masks = [0u64; 80];
+    let mut right_masks = [0u64; 80];
     list_rounds(
         symbols,
         input_states,
@@ -473,7 +424,7 @@ fn list_within(
     )
 }
 
-// Prepares an admitted contract and lists its kinds.
+// Prepares an admitted contract and lists its kinds; the table of lists is short for a small contract.
 fn list_all(
     symbols: usize,
     input_states: usize,
@@ -493,7 +444,7 @@ fn list_all(
     ensures { λ r. ⌜ Outcome (contract symbols «input_states» «output_states» (now (counts .entry)) (now («input_rows» .entry)) (now («input_marks» .entry)) (now («output_table» .entry)) (now («output_marks» .entry)) (now (nodes .entry)) (now (rules .entry))) (λ (n : ℕ). Passed (contract symbols «input_states» «output_states» (now (counts .entry)) (now («input_rows» .entry)) (now («input_marks» .entry)) (now («output_table» .entry)) (now («output_marks» .entry)) (now (nodes .entry)) (now (rules .entry))) limit n (now (rows .exit)) (now (words .exit))) limit (now (rows .exit)) (now (words .exit)) r ⌝ }
 {
     if lists_length(input_rows, nodes, rules) <= 256 {
-        let mut lists = few_lists();
+        let mut lists = [0u16; 256];
         return list_within(
             symbols,
             input_states,

@@ -2,7 +2,7 @@
 // recursion.
 ghost use mathlib.Core.Path.{_≡_};
 ghost use Prim.Native.Nat.{_+_, _*_, _<_, _≤_};
-ghost use lib.ListN.{length, replicate};
+ghost use lib.ListN.{length};
 ghost use Rattle.model.specs.Documents.{mostNumbers};
 ghost use Rattle.model.proofs.Laws.Documents.{Readable, treeFrom};
 ghost use Rattle.kind_words.specs.Fits.{Ready};
@@ -13,23 +13,12 @@ ghost use Rattle.document_kinds.specs.Stored.{kindAt, putKind, IsKindOf,
 use kinds::empty_kind;
 use kinds::next_kind;
 use lanes::Layout;
-use reading::few_ends;
 use reading::fill_ends;
-use reading::most_ends;
 use reading::right_child;
 use tables::Symbol;
 
-// Room for a kind at each place of a document of at most sixteen numbers.
-fn few_kinds() -> [u64; 96]
-    ensures { λ r. ⌜ r ≡ replicate 96 0 ⌝ }
-{
-    [0u64; 96]
-}
-
-// Room for a kind at each place of every document.
-fn most_kinds() -> [u64; 6138]
-    ensures { λ r. ⌜ r ≡ replicate 6138 0 ⌝ }
-{
+// Room for a kind at each place of every document; in a function of its own, so that proofs see its length alone.
+fn most_kinds() -> [u64; 6138] {
     [0u64; 6138]
 }
 
@@ -145,7 +134,7 @@ fn kind_within(
     kind_at(kinds, 0)
 }
 
-// The kind of a document's tree.
+// The kind of a document's tree. There is room for sixteen numbers or for as many as there may be.
 pub fn document_kind(
     layout: Layout,
     offsets: &[u16; 16],
@@ -161,8 +150,8 @@ pub fn document_kind(
     ensures { λ r. ⌜ IsKindOf (layoutOf layout) (now (offsets .entry)) (now (lists .entry)) (now (counts .entry)) (now (rows .entry)) (now (table .entry)) (now (nodes .entry)) (now (rules .entry)) (treeFrom (now (numbers .entry)) 0) r ⌝ }
 {
     if numbers.len() <= 16 {
-        let mut ends = few_ends();
-        let mut kinds = few_kinds();
+        let mut ends = [0u16; 16];
+        let mut kinds = [0u64; 96];
         return kind_within(
             layout,
             offsets,
@@ -177,7 +166,7 @@ pub fn document_kind(
             &mut kinds,
         );
     }
-    let mut ends = most_ends();
+    let mut ends = [0u16; 1023];
     let mut kinds = most_kinds();
     kind_within(
         layout,

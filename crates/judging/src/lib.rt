@@ -19,7 +19,6 @@ use breaking::of_input_type;
 use document_kinds::document_kind;
 use layouts::layout_of;
 use layouts::offsets_of;
-use reaching::few_lists;
 use reaching::fill_lists;
 use reaching::lists_length;
 use reaching::most_lists;
@@ -56,7 +55,7 @@ fn kind_with(
     )
 }
 
-// The kind of a document's tree, with all that is prepared for its contract.
+// The kind of a document's tree, with all that is prepared for its contract; the table of lists is short for a small one.
 fn tree_kind(
     states: usize,
     counts: &[u16],
@@ -70,7 +69,7 @@ fn tree_kind(
     ensures { λ r. ⌜ IsTreeKind states (now (counts .entry)) (now (rows .entry)) (now (table .entry)) (now (nodes .entry)) (now (rules .entry)) (now (numbers .entry)) r ⌝ }
 {
     if lists_length(rows, nodes, rules) <= 256 {
-        let mut lists = few_lists();
+        let mut lists = [0u16; 256];
         return kind_with(
             states,
             counts,

@@ -116,20 +116,6 @@ fn reached_states(
     states
 }
 
-// Room for the words of at most sixteen nodes.
-fn few_words() -> [u64; 16]
-    ensures { λ r. ⌜ r ≡ replicate 16 0 ⌝ }
-{
-    [0u64; 16]
-}
-
-// Room for the words of as many nodes as there may be.
-fn most_words() -> [u64; 256]
-    ensures { λ r. ⌜ r ≡ replicate 256 0 ⌝ }
-{
-    [0u64; 256]
-}
-
 fn no_facts() -> [u64; 6]
     ensures { λ r. ⌜ r ≡ replicate 6 0 ⌝ }
 {
@@ -186,7 +172,8 @@ fn kind_within(
     kind
 }
 
-// The kind of a symbol over two kinds: five words, and a sixth that is 0.
+// The kind of a symbol over two kinds: five words, and a sixth that is 0. There is room for the words of sixteen nodes or of
+// as many as there may be.
 pub fn next_kind(
     layout: Layout,
     offsets: &[u16; 16],
@@ -204,7 +191,7 @@ pub fn next_kind(
     ensures { λ kind. ⌜ IsNextKind (layoutOf layout) (now (offsets .entry)) (now (lists .entry)) (now (counts .entry)) (now (rows .entry)) (now (table .entry)) (now (nodes .entry)) (now (rules .entry)) (symbol .0) (now (left .entry)) (now (right .entry)) kind ⌝ }
 {
     if nodes.len() <= 80 {
-        let mut words = few_words();
+        let mut words = [0u64; 16];
         return kind_within(
             layout,
             offsets,
@@ -220,7 +207,7 @@ pub fn next_kind(
             &mut words,
         );
     }
-    let mut words = most_words();
+    let mut words = [0u64; 256];
     kind_within(
         layout,
         offsets,

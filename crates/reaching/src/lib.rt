@@ -3,7 +3,7 @@
 ghost use mathlib.Core.Path.{_≡_};
 ghost use mathlib.Core.Bool.{true};
 ghost use Prim.Native.Nat.{ℕ, _+_, _*_, _/_, _<_, _≤_};
-ghost use lib.ListN.{length, getD, set, replicate};
+ghost use lib.ListN.{length, getD, set};
 ghost use lib.Dec.{ltb};
 ghost use Rattle.model.specs.Tables.{inputRowCount, nodeCount, ruleAt, ruleCount};
 ghost use Rattle.kind_words.specs.Kind.{ListsFor, RulesChained, listsLength};
@@ -19,20 +19,6 @@ use tables::Symbol;
 use tables::node_at;
 use tables::reference_count;
 use tables::rule_at;
-
-// Room for the marks of at most sixteen nodes.
-fn few_marks() -> [u16; 16]
-    ensures { λ r. ⌜ r ≡ replicate 16 0 ⌝ }
-{
-    [0u16; 16]
-}
-
-// Room for the marks of as many nodes as there may be.
-fn most_marks() -> [u16; 256]
-    ensures { λ r. ⌜ r ≡ replicate 256 0 ⌝ }
-{
-    [0u16; 256]
-}
 
 // Marks node n, where it is used.
 fn mark(marks: &mut [u16], used: bool, n: u16)
@@ -151,7 +137,8 @@ fn list_reached(
     list_marked(marks, nodes.len() / 5, lists, start)
 }
 
-// Lists the nodes that the rules for a symbol reach, and returns how many they are.
+// Lists the nodes that the rules for a symbol reach, and returns how many they are. There is room for the marks of sixteen
+// nodes or of as many as there may be.
 fn list_symbol(
     counts: &[u16],
     nodes: &[u16],
@@ -165,10 +152,10 @@ fn list_symbol(
 {
     if has_rules(rules, lists, symbol) {
         if nodes.len() <= 80 {
-            let mut marks = few_marks();
+            let mut marks = [0u16; 16];
             return list_reached(counts, nodes, rules, symbol, &mut marks, lists, start);
         }
-        let mut marks = most_marks();
+        let mut marks = [0u16; 256];
         return list_reached(counts, nodes, rules, symbol, &mut marks, lists, start);
     }
     0
@@ -222,17 +209,8 @@ pub fn lists_length(rows: &[u16], nodes: &[u16], rules: &[u16]) -> usize
     nodes_from(rules, rows) + 16 * (nodes.len() / 5)
 }
 
-// Room for the table of lists of a small contract.
-pub fn few_lists() -> [u16; 256]
-    ensures { λ r. ⌜ r ≡ replicate 256 0 ⌝ }
-{
-    [0u16; 256]
-}
-
-// Room for the table of lists of every contract.
-pub fn most_lists() -> [u16; 4928]
-    ensures { λ r. ⌜ r ≡ replicate 4928 0 ⌝ }
-{
+// Room for the table of lists of every contract; in a function of its own, so that proofs see its length alone.
+pub fn most_lists() -> [u16; 4928] {
     [0u16; 4928]
 }
 

@@ -5,7 +5,7 @@
 // starts at place i + 1, the right child where the left one ends.
 ghost use mathlib.Core.Path.{_≡_};
 ghost use Prim.Native.Nat.{_+_, _-_, _^_, _≤_, _<_};
-ghost use lib.ListN.{length, getD, replicate};
+ghost use lib.ListN.{length, getD};
 ghost use Rattle.model.specs.Documents.{leading, document, mostNumbers};
 ghost use Rattle.model.proofs.Laws.Documents.{dueAfter, Readable, endFrom};
 ghost use Rattle.reading.specs.Answers.{leadingOf, documentVerdict};
@@ -83,20 +83,6 @@ pub fn document(symbols: usize, numbers: &[u16]) -> DocumentAnswer
         }
         Leading::Faulty(at) => DocumentAnswer::Refused(DocumentFault::Number(at)),
     }
-}
-
-// Room for where the trees of a document of at most sixteen numbers end.
-pub fn few_ends() -> [u16; 16]
-    ensures { λ r. ⌜ r ≡ replicate 16 0 ⌝ }
-{
-    [0u16; 16]
-}
-
-// Room for where the trees of every document end.
-pub fn most_ends() -> [u16; 1023]
-    ensures { λ r. ⌜ r ≡ replicate 1023 0 ⌝ }
-{
-    [0u16; 1023]
 }
 
 // Where the right child of place i starts: where the left child ends, which starts at the next place.

@@ -28,9 +28,7 @@ use plans::side_of;
 use plans::symbol_of;
 use reading::DocumentAnswer;
 use reading::document;
-use reading::few_ends;
 use reading::fill_ends;
-use reading::most_ends;
 use tables::Node;
 use tables::Procedure;
 use tables::Symbol;
@@ -338,7 +336,7 @@ fn run_with(
     answer_of(end, tally, rows.len() / 3)
 }
 
-// Runs procedure 0 on a document.
+// Runs procedure 0 on a document. There is room for the ends of sixteen trees or of as many as there may be.
 fn run_document(
     counts: &[u16],
     nodes: &[u16],
@@ -350,10 +348,10 @@ fn run_document(
     ensures { λ r. ⌜ Closes (now (counts .entry)) (now (nodes .entry)) (now (rules .entry)) (now (numbers .entry)) (now (rows .entry)) r (now (rows .exit)) ⌝ }
 {
     if numbers.len() <= 16 {
-        let mut ends = few_ends();
+        let mut ends = [0u16; 16];
         return run_with(counts, nodes, rules, numbers, &mut ends, rows);
     }
-    let mut ends = most_ends();
+    let mut ends = [0u16; 1023];
     run_with(counts, nodes, rules, numbers, &mut ends, rows)
 }
 

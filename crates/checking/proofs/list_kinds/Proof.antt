@@ -1,8 +1,5 @@
 -- The first row is that of the empty forest; the masks have room for the contract's symbols.
-use mathlib.Core.Path.{_≡_}
-use Prim.Native.Nat.{ℕ}
 use native.Mathlib.Omega.{arith}
-use lib.ListN.{length, length-replicate}
 use Rattle.kind_lists.proofs.Stops.{ends, goes}
 use Rattle.checking.proofs.FirstRow.{one-row}
 use borrow.Author.Needs.{needs}
@@ -24,12 +21,6 @@ same-length-2 c = search needs
 returns : tie.Need-returns
 returns c = ends _ _ _ _ _ _ (c .before .before .before .before .before .first-row .result) (c .match .keys2) (c .before .before .before .before .before .first-row .ensures)
 
-few-masks-requires : tie.Need-few-masks-requires
-few-masks-requires c κs = search needs
-
-few-masks-requires-2 : tie.Need-few-masks-requires-2
-few-masks-requires-2 c κs = search needs
-
 slice-aggregate-list-rounds : tie.Need-slice-aggregate-list-rounds
 slice-aggregate-list-rounds c = search needs
 
@@ -38,10 +29,8 @@ slice-aggregate-list-rounds-2 c = search needs
 
 list-rounds-requires : tie.Need-list-rounds-requires
 list-rounds-requires c κs =
-    let begun = goes _ _ _ _ _ (c .before .before .before .before .before .before .before .before .before .before .before .before .before .first-row .result) _ (c .before .before .before .before .before .before .before .enum-told .given .1) (c .before .before .before .before .before .before .before .before .before .before .before .before .before .first-row .ensures) in
-    let long : length (c .before .before .before .before .before .few-masks .result) ≡ 20 = rw (c .before .before .before .before .before .few-masks .ensures) (length-replicate {A = ℕ} 20 0) in
-    let long2 : length (c .before .before .before .before .few-masks2 .result) ≡ 20 = rw (c .before .before .before .before .few-masks2 .ensures) (length-replicate {A = ℕ} 20 0) in
-    (c .before .before .before .before .before .before .before .before .before .before .before .before .before .before .before .before .before .before .before .before .before .before .before .before .before .before .pre .0, omega (arith, long, c .before .before .before .before .before .before .if1 .taken), omega (arith, long2, c .before .before .before .before .before .before .if1 .taken), one-row (begun .0) (begun .1))
+    let begun = goes _ _ _ _ _ (c .before .before .before .before .before .before .before .before .before .before .before .first-row .result) _ (c .before .before .before .before .before .enum-told .given .1) (c .before .before .before .before .before .before .before .before .before .before .before .first-row .ensures) in
+    (c .before .before .before .before .before .before .before .before .before .before .before .before .before .before .before .before .before .before .before .before .before .before .before .before .pre .0, omega arith, omega arith, one-row (begun .0) (begun .1))
 
 same-length-3 : tie.Need-same-length-3
 same-length-3 c = search needs
@@ -52,12 +41,6 @@ same-length-4 c = search needs
 returns-2 : tie.Need-returns-2
 returns-2 c = search needs
 
-most-masks-requires : tie.Need-most-masks-requires
-most-masks-requires c κs = search needs
-
-most-masks-requires-2 : tie.Need-most-masks-requires-2
-most-masks-requires-2 c κs = search needs
-
 slice-aggregate-list-rounds-3 : tie.Need-slice-aggregate-list-rounds-3
 slice-aggregate-list-rounds-3 c = search needs
 
@@ -66,10 +49,9 @@ slice-aggregate-list-rounds-4 c = search needs
 
 list-rounds-requires-2 : tie.Need-list-rounds-requires-2
 list-rounds-requires-2 c κs =
-    let begun = goes _ _ _ _ _ (c .before .before .before .before .before .before .before .before .before .before .before .before .before .first-row .result) _ (c .before .before .before .before .before .before .before .enum-told .given .1) (c .before .before .before .before .before .before .before .before .before .before .before .before .before .first-row .ensures) in
-    let long : length (c .before .before .before .before .before .most-masks .result) ≡ 80 = rw (c .before .before .before .before .before .most-masks .ensures) (length-replicate {A = ℕ} 80 0) in
-    let long2 : length (c .before .before .before .before .most-masks2 .result) ≡ 80 = rw (c .before .before .before .before .most-masks2 .ensures) (length-replicate {A = ℕ} 80 0) in
-    (c .before .before .before .before .before .before .before .before .before .before .before .before .before .before .before .before .before .before .before .before .before .before .before .before .before .before .pre .0, omega (arith, long, c .before .before .before .before .before .before .before .before .before .before .before .before .before .before .before .before .before .before .before .before .before .before .before .before .before .before .pre .0 .prepared .established .symbols .≤most), omega (arith, long2, c .before .before .before .before .before .before .before .before .before .before .before .before .before .before .before .before .before .before .before .before .before .before .before .before .before .before .pre .0 .prepared .established .symbols .≤most), one-row (begun .0) (begun .1))
+    let begun = goes _ _ _ _ _ (c .before .before .before .before .before .before .before .before .before .before .before .first-row .result) _ (c .before .before .before .before .before .enum-told .given .1) (c .before .before .before .before .before .before .before .before .before .before .before .first-row .ensures) in
+    let stage = c .before .before .before .before .before .before .before .before .before .before .before .before .before .before .before .before .before .before .before .before .before .before .before .before .pre .0 in
+    (stage, omega (arith, stage .prepared .established .symbols .≤most), omega (arith, stage .prepared .established .symbols .≤most), one-row (begun .0) (begun .1))
 
 same-length-5 : tie.Need-same-length-5
 same-length-5 c = search needs
@@ -89,16 +71,12 @@ list-kinds-spec =
     same-length
     same-length-2
     returns
-    few-masks-requires
-    few-masks-requires-2
     slice-aggregate-list-rounds
     slice-aggregate-list-rounds-2
     list-rounds-requires
     same-length-3
     same-length-4
     returns-2
-    most-masks-requires
-    most-masks-requires-2
     slice-aggregate-list-rounds-3
     slice-aggregate-list-rounds-4
     list-rounds-requires-2

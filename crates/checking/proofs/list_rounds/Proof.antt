@@ -1,8 +1,6 @@
 -- The masks show what each symbol sees. The rounds end with the tables for few rows, or go on where these are outgrown.
-use mathlib.Core.Path.{_≡_, sym, _∙_}
-use Prim.Native.Nat.{ℕ}
+use mathlib.Core.Path.{refl}
 use native.Mathlib.Omega.{arith}
-use lib.ListN.{length, length-replicate}
 use Rattle.kind_lists.specs.Between.{passed}
 use Rattle.kind_lists.proofs.Stops.{ends, goes}
 use borrow.Author.Needs.{needs}
@@ -11,15 +9,6 @@ use Rattle.checking.proofs.list_rounds.Tie as tie
 
 all-masks-requires : tie.Need-all-masks-requires
 all-masks-requires c κs = search needs
-
-few-marks-requires : tie.Need-few-marks-requires
-few-marks-requires c κs = search needs
-
-few-marks-requires-2 : tie.Need-few-marks-requires-2
-few-marks-requires-2 c κs = search needs
-
-few-hints-requires : tie.Need-few-hints-requires
-few-hints-requires c κs = search needs
 
 slice-aggregate-all-rounds : tie.Need-slice-aggregate-all-rounds
 slice-aggregate-all-rounds c = search needs
@@ -32,16 +21,15 @@ slice-aggregate-all-rounds-3 c = search needs
 
 all-rounds-requires : tie.Need-all-rounds-requires
 all-rounds-requires c κs =
-    let long : length (c .before .before .before .before .before .before .before .before .before .few-marks .result) ≡ 64 = rw (c .before .before .before .before .before .before .before .before .before .few-marks .ensures) (length-replicate {A = ℕ} 64 0) in
-    let long2 : length (c .before .before .before .before .before .before .before .before .few-marks2 .result) ≡ 64 = rw (c .before .before .before .before .before .before .before .before .few-marks2 .ensures) (length-replicate {A = ℕ} 64 0) in
-    let slots : length (c .before .before .before .before .before .before .before .few-hints .result) ≡ 128 = rw (c .before .before .before .before .before .before .before .few-hints .ensures) (length-replicate {A = ℕ} 128 0) in (
-      c .before .before .before .before .before .before .before .before .before .before .before .before .before .before .before .before .before .before .before .before .before .before .before .before .before .before .before .before .before .pre .0,
-      c .before .before .before .before .before .before .before .before .before .before .before .before .before .before .all-masks .ensures,
-      omega (arith, c .before .before .before .before .before .before .before .before .before .before .before .before .before .before .all-masks .kept .1 .1 .1 .1 .1 .1 .1 .1 .1 .1 .1 .1 .0, c .before .before .before .before .before .before .before .before .before .before .before .before .before .before .before .before .before .before .before .before .before .before .before .before .before .before .before .before .before .pre .1),
-      omega (arith, c .before .before .before .before .before .before .before .before .before .before .before .before .before .before .all-masks .kept .1 .1 .1 .1 .1 .1 .1 .1 .1 .1 .1 .1 .1 .0, c .before .before .before .before .before .before .before .before .before .before .before .before .before .before .before .before .before .before .before .before .before .before .before .before .before .before .before .before .before .pre .2),
-      long2 ∙ sym long,
-      c .before .before .before .before .before .before .before .before .before .before .before .before .before .before .before .before .before .before .before .before .before .before .before .before .before .before .before .before .before .pre .3,
-      omega (arith, slots),
+    let masks = c .before .before .before .before .before .before .before .before .before .before .before .all-masks in
+    let pre = c .before .before .before .before .before .before .before .before .before .before .before .before .before .before .before .before .before .before .before .before .before .before .before .before .before .before .pre in (
+      pre .0,
+      masks .ensures,
+      omega (arith, masks .kept .1 .1 .1 .1 .1 .1 .1 .1 .1 .1 .1 .1 .0, pre .1),
+      omega (arith, masks .kept .1 .1 .1 .1 .1 .1 .1 .1 .1 .1 .1 .1 .1 .0, pre .2),
+      refl,
+      pre .3,
+      omega arith,
     )
 
 enum-known-ended : tie.Need-enum-known-ended
@@ -64,19 +52,21 @@ returns c = ends _ _ _ _ _ _ (c .before .before .before .before .before .before 
 
 many-rounds-requires : tie.Need-many-rounds-requires
 many-rounds-requires c κs =
+    let masks = c .before .before .before .before .before .before .before .before .before .before .before .before .before .before .before .before .before .before .before .before .before .before .before .before .before .before .before .before .all-masks in
+    let pre = c .before .before .before .before .before .before .before .before .before .before .before .before .before .before .before .before .before .before .before .before .before .before .before .before .before .before .before .before .before .before .before .before .before .before .before .before .before .before .before .before .before .before .before .pre in
     let reached = goes _ _ _ _ _ (c .before .before .before .before .before .before .before .before .before .before .before .before .before .before .before .before .all-rounds .result .ended) _ (c .before .before .before .before .before .before .before .ended .given .1) (c .before .before .before .before .before .before .before .before .before .before .before .before .before .before .before .before .all-rounds .ensures) in (
-      c .before .before .before .before .before .before .before .before .before .before .before .before .before .before .before .before .before .before .before .before .before .before .before .before .before .before .before .before .before .before .before .before .before .before .before .before .before .before .before .before .before .before .before .before .before .before .pre .0,
-      c .before .before .before .before .before .before .before .before .before .before .before .before .before .before .before .before .before .before .before .before .before .before .before .before .before .before .before .before .before .before .before .all-masks .ensures,
-      omega (arith, c .before .before .before .before .before .before .before .before .before .before .before .before .before .before .before .before .before .before .before .before .before .before .before .before .before .before .before .before .before .before .before .all-masks .kept .1 .1 .1 .1 .1 .1 .1 .1 .1 .1 .1 .1 .0, c .before .before .before .before .before .before .before .before .before .before .before .before .before .before .before .before .before .before .before .before .before .before .before .before .before .before .before .before .before .before .before .before .before .before .before .before .before .before .before .before .before .before .before .before .before .before .pre .1),
-      omega (arith, c .before .before .before .before .before .before .before .before .before .before .before .before .before .before .before .before .before .before .before .before .before .before .before .before .before .before .before .before .before .before .before .all-masks .kept .1 .1 .1 .1 .1 .1 .1 .1 .1 .1 .1 .1 .1 .0, c .before .before .before .before .before .before .before .before .before .before .before .before .before .before .before .before .before .before .before .before .before .before .before .before .before .before .before .before .before .before .before .before .before .before .before .before .before .before .before .before .before .before .before .before .before .before .pre .2),
+      pre .0,
+      masks .ensures,
+      omega (arith, masks .kept .1 .1 .1 .1 .1 .1 .1 .1 .1 .1 .1 .1 .0, pre .1),
+      omega (arith, masks .kept .1 .1 .1 .1 .1 .1 .1 .1 .1 .1 .1 .1 .1 .0, pre .2),
       reached .between,
     )
 
 same-length-5 : tie.Need-same-length-5
-same-length-5 c = c .before .before .before .before .before .before .before .before .before .before .before .before .before .before .before .before .before .before .before .before .before .before .before .before .before .before .before .before .before .before .before .before .before .before .before .before .all-masks .kept .1 .1 .1 .1 .1 .1 .1 .1 .1 .1 .1 .1 .0
+same-length-5 c = c .before .before .before .before .before .before .before .before .before .before .before .before .before .before .before .before .before .before .before .before .before .before .before .before .before .before .before .before .before .before .before .before .before .all-masks .kept .1 .1 .1 .1 .1 .1 .1 .1 .1 .1 .1 .1 .0
 
 same-length-6 : tie.Need-same-length-6
-same-length-6 c = c .before .before .before .before .before .before .before .before .before .before .before .before .before .before .before .before .before .before .before .before .before .before .before .before .before .before .before .before .before .before .before .before .before .before .before .before .all-masks .kept .1 .1 .1 .1 .1 .1 .1 .1 .1 .1 .1 .1 .1 .0
+same-length-6 c = c .before .before .before .before .before .before .before .before .before .before .before .before .before .before .before .before .before .before .before .before .before .before .before .before .before .before .before .before .before .before .before .before .before .all-masks .kept .1 .1 .1 .1 .1 .1 .1 .1 .1 .1 .1 .1 .1 .0
 
 same-length-7 : tie.Need-same-length-7
 same-length-7 c = search needs
@@ -109,9 +99,6 @@ list-rounds-spec =
     tie.close
     (tie.spec
     all-masks-requires
-    few-marks-requires
-    few-marks-requires-2
-    few-hints-requires
     slice-aggregate-all-rounds
     slice-aggregate-all-rounds-2
     slice-aggregate-all-rounds-3

@@ -13,9 +13,6 @@ use Rattle.reaching.proofs.list_symbol.Tie as tie
 has-rules-requires : tie.Need-has-rules-requires
 has-rules-requires c κs = search needs
 
-few-marks-requires : tie.Need-few-marks-requires
-few-marks-requires c κs = search needs
-
 slice-aggregate-list-reached : tie.Need-slice-aggregate-list-reached
 slice-aggregate-list-reached c = search needs
 
@@ -27,9 +24,6 @@ same-length c = search needs
 
 returns : tie.Need-returns
 returns c = search needs
-
-most-marks-requires : tie.Need-most-marks-requires
-most-marks-requires c κs = search needs
 
 slice-aggregate-list-reached-2 : tie.Need-slice-aggregate-list-reached-2
 slice-aggregate-list-reached-2 c = search needs
@@ -57,12 +51,10 @@ list-symbol-spec =
     tie.close
     (tie.spec
     has-rules-requires
-    few-marks-requires
     slice-aggregate-list-reached
     list-reached-requires
     same-length
     returns
-    most-marks-requires
     slice-aggregate-list-reached-2
     list-reached-requires-2
     same-length-2
