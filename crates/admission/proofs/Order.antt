@@ -14,12 +14,12 @@ use Rattle.model.specs.Answers.{Verdict, fine, refused, _then_, refuseIf, refus
 use Rattle.model.specs.Admission.{nodeWrong, mostFacts, sizes, lengths, inputRows, entries, counts, nodes, rules, facts, admission, admit}
 use Rattle.model.proofs.Laws.Answers.{refuse-if-refused, refuse-if-passed, then-fine-left, then-fine-right, then-assoc, given-fine, given-refused, given-passed, given-stopped, given-admitted}
 use Rattle.model.proofs.Laws.Admitted.{sizes-good, input-marks-long, output-table-long, output-marks-long, nodes-whole, nodes-good, counts-good}
+use Rattle.model.proofs.Laws.Established.{GoodNodes}
 use Rattle.answers.specs.declared.ContractFault.{ContractFault}
 use Rattle.answers.specs.declared.AdmissionAnswer.{AdmissionAnswer}
 use Rattle.answers.specs.declared.AdmissionAnswer.the-variants.{Admitted, Refused}
 use Rattle.answers.specs.Numbers.{admissionAnswer}
 use Rattle.numbering.specs.Counts.{SmallCounts}
-use Rattle.admission_expressions.specs.Uses.{GoodNodes}
 use Rattle.admission.proofs.Answered.{refused-as}
 use Rattle.admission.specs.Stages.{answerOf, shape, types, expressions}
 
@@ -51,7 +51,7 @@ pub good-nodes : (S : ℕ) (cs ns : List ℕ) → nodeCount ns ≤ 256
     → refuseFirst 6 (λ n. nodeWrong S cs n (nodeAt ns n)) (nodeCount ns) ≡ fine
     → GoodNodes cs ns
 unfolding nodes
-good-nodes S cs ns few e = record { symbols = S; few = few; good = nodes-good (contract S 0 0 cs [] [] [] [] ns []) e }
+good-nodes S cs ns few e = record { symbols = S; few = few; node = nodes-good (contract S 0 0 cs [] [] [] [] ns []) e }
 
 -- the total, where it is over 256 and where it is not
 pub facts-over : (O : ℕ) (cs : List ℕ) (total : ℕ) → total ≡ factTotal O cs → 256 < total

@@ -13,8 +13,8 @@ use Rattle.model.specs.Tables.{Node, nodeAt, nodeCount, countOf, Rule}
 use Rattle.model.specs.Expressions.{Expression, expression, argumentsOf, greatestParameter, greatestOfAll, holdsCall}
 use Rattle.model.specs.Admission.{ruleWrong}
 use Rattle.model.proofs.Laws.Expressions.{expression-parameter, expression-nothing, expression-symbol, expression-call}
-use Rattle.model.proofs.Laws.Established.{GoodNode, good-parameter, good-nothing, good-symbol, good-call}
-use Rattle.admission_expressions.specs.Uses.{GoodNodes, greatestOver, callOver, GreatestKnown, CallsKnown}
+use Rattle.model.proofs.Laws.Established.{GoodNodes, GoodNode, good-parameter, good-nothing, good-symbol, good-call}
+use Rattle.admission_expressions.specs.Uses.{greatestOver, callOver, GreatestKnown, CallsKnown}
 
 -- the greatest parameter of the arguments, by how many there are
 greatest-arguments : (count : ℕ) (x y : ℕ) (e f : Expression)
@@ -61,7 +61,7 @@ module _ (counts nodes : List ℕ) (good : GoodNodes counts nodes) (k : ℕ) (h 
       → GreatestKnown counts nodes (k + 1) (set table k v)
   greatest-more table room known n at v is =
       filled-more (λ j. greatestParameter (expression counts nodes j)) 0 table k v (omega arith) known
-      (is ∙ ap (λ (m : Node). greatestOver counts table m) at ∙ greatest-good (good .symbols) counts nodes k table known (good .good k h))
+      (is ∙ ap (λ (m : Node). greatestOver counts table m) at ∙ greatest-good (good .symbols) counts nodes k table known (good .node k h))
 
   pub call-more : (table : List Bool) → nodeCount nodes ≤ length table → CallsKnown counts nodes k table
       → (n : Node) → n ≡ nodeAt nodes k
@@ -69,7 +69,7 @@ module _ (counts nodes : List ℕ) (good : GoodNodes counts nodes) (k : ℕ) (h 
       → CallsKnown counts nodes (k + 1) (set table k v)
   call-more table room known n at v is =
       filled-more (λ j. holdsCall (expression counts nodes j)) false table k v (omega arith) known
-      (is ∙ ap (λ (m : Node). callOver counts table m) at ∙ call-good (good .symbols) counts nodes k table known (good .good k h))
+      (is ∙ ap (λ (m : Node). callOver counts table m) at ∙ call-good (good .symbols) counts nodes k table known (good .node k h))
 
 -- a rule's node that does not exist is bad whatever it is said to use
 no-node : (a b x y x′ y′ : Bool) → (a || b || true || x || y) ≡ (a || b || true || x′ || y′)

@@ -2,14 +2,13 @@
 use mathlib.Core.Path.{_≡_}
 use mathlib.Core.Bool.{Bool, true, false, _||_}
 use mathlib.Core.List.{List}
-use Prim.Native.Nat.{ℕ, _<_, _≤_, max}
+use Prim.Native.Nat.{ℕ, _<_, max}
 use lib.Dec.{eqb}
 use lib.ListN.{getD}
 use Rattle.foundation.specs.Tests.{choose}
-use Rattle.model.specs.Tables.{Node, nodeAt, nodeCount}
+use Rattle.model.specs.Tables.{Node}
 use Rattle.model.specs.Expressions.{expression, greatestParameter, holdsCall}
 use Rattle.model.specs.Admission.{references}
-use Rattle.model.proofs.Laws.Established.{GoodNode}
 
 -- the greatest parameter: its own, or the greatest of those it refers to
 abbrev pub greatestOver : (counts : List ℕ) (smaller : List ℕ) → Node → ℕ
@@ -23,12 +22,6 @@ abbrev pub callOver : (counts : List ℕ) (smaller : List Bool) → Node → Boo
 callOver counts smaller n =
     choose (eqb (n .tag) 2) true
     (choose (eqb (references counts n) 0) false (getD smaller (n .first) false || getD smaller (n .second) false))
-
--- a table of nodes that passed admission
-pub record GoodNodes (counts nodes : List ℕ) : Type 0 where
-  pub symbols : ℕ
-  pub few : nodeCount nodes ≤ 256
-  pub good : (k : ℕ) → k < nodeCount nodes → GoodNode symbols counts k (nodeAt nodes k)
 
 -- entry j of a table, for every node below k, is the greatest parameter that node j uses
 abbrev pub GreatestKnown : (counts nodes : List ℕ) → ℕ → List ℕ → Type 0

@@ -11,8 +11,9 @@ ghost use lib.ListN.{length};
 ghost use Rattle.foundation.specs.Search.{first};
 ghost use Rattle.model.specs.Tables.{nodeCount, ruleAt, ruleCount};
 ghost use Rattle.model.specs.Admission.{ruleWrong};
+ghost use Rattle.model.proofs.Laws.Established.{GoodNodes};
 ghost use Rattle.tables.specs.Tuples.{ruleOf};
-ghost use Rattle.admission_expressions.specs.Uses.{GoodNodes, GreatestKnown, CallsKnown};
+ghost use Rattle.admission_expressions.specs.Uses.{GreatestKnown, CallsKnown};
 
 // What a rule names does not exist, or its node uses what it must not.
 fn rule_wrong(

@@ -9,8 +9,9 @@ ghost use mathlib.Core.Path.{_≡_};
 ghost use Prim.Native.Nat.{max, _≤_};
 ghost use lib.ListN.{length};
 ghost use Rattle.model.specs.Tables.{nodeCount};
+ghost use Rattle.model.proofs.Laws.Established.{GoodNodes};
 ghost use Rattle.tables.specs.Tuples.{nodeOf};
-ghost use Rattle.admission_expressions.specs.Uses.{GoodNodes, greatestOver, callOver, GreatestKnown, CallsKnown};
+ghost use Rattle.admission_expressions.specs.Uses.{greatestOver, callOver, GreatestKnown, CallsKnown};
 
 fn greater(a: u16, b: u16) -> u16
     ensures { λ r. ⌜ r ≡ max a b ⌝ }

@@ -11,11 +11,12 @@ use lib.ListN.{length, getD, set, length-set}
 use lib.Seq.{getD-set-same, getD-set-other}
 use Rattle.foundation.specs.Tests.{choose}
 use Rattle.model.specs.Tables.{inputRow, inputRowCount, nodeCount, ruleAt, ruleCount}
+use Rattle.model.proofs.Laws.Established.{GoodNodes}
 use Rattle.kind_words.specs.Listed.{Before, ListOf, RefersBefore}
 use Rattle.kind_words.specs.Chains.{chained-same}
 use Rattle.kind_words.specs.Kind.{listed, listLength, ListsFor, RulesChained}
 use Rattle.chains.specs.Chaining.{Chaining}
-use Rattle.reaching.specs.Marks.{Marked, counted, Closed, RulesMarked, NodesGood, RulesGood, first-smaller, second-smaller}
+use Rattle.reaching.specs.Marks.{Marked, counted, Closed, RulesMarked, RulesGood, first-smaller, second-smaller}
 
 -- place i of a list that starts at a place
 abbrev pub from : List ℕ → ℕ → ℕ → ℕ
@@ -130,7 +131,7 @@ pub record SymbolListed (counts nodes rules : List ℕ) (s start : ℕ) (before 
   pub kept : (j : ℕ) → j < start → getD lists j 0 ≡ getD before j 0
 
 -- from marks that are closed, with the nodes of the rules among them
-pub symbol-listed : (counts nodes rules : List ℕ) (s start : ℕ) (ruleMarks marks before lists : List ℕ) (n : ℕ) → NodesGood counts nodes → RulesGood nodes rules
+pub symbol-listed : (counts nodes rules : List ℕ) (s start : ℕ) (ruleMarks marks before lists : List ℕ) (n : ℕ) → GoodNodes counts nodes → RulesGood nodes rules
     → RulesMarked rules s (ruleCount rules) ruleMarks
     → Closed counts nodes 0 ruleMarks marks
     → Listing marks before lists start (nodeCount nodes) n

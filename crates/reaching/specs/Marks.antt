@@ -13,15 +13,9 @@ use Rattle.foundation.specs.Tests.{choose}
 use Rattle.model.specs.Tables.{Contract, Node, inputRow, inputRowCount, nodeAt, nodeCount, ruleAt, ruleCount}
 use Rattle.model.specs.Admission.{references}
 use Rattle.kind_words.specs.Chains.{NextFrom}
-use Rattle.model.proofs.Laws.Established.{Established, GoodNode, good-parameter, good-nothing, good-symbol, good-call}
+use Rattle.model.proofs.Laws.Established.{Established, GoodNode, GoodNodes, good-parameter, good-nothing, good-symbol, good-call}
 
--- the nodes of an admitted contract
-pub record NodesGood (counts nodes : List ℕ) : Type 0 where
-  pub symbols : ℕ
-  pub few : nodeCount nodes ≤ 256
-  pub node : (n : ℕ) → n < nodeCount nodes → GoodNode symbols counts n (nodeAt nodes n)
-
--- and its rules
+-- the rules of an admitted contract
 pub record RulesGood (nodes rules : List ℕ) : Type 0 where
   pub node : (r : ℕ) → r < ruleCount rules → ruleAt rules r .node < nodeCount nodes
   pub symbol : (r : ℕ) → r < ruleCount rules → ruleAt rules r .symbol < 16
@@ -31,9 +25,6 @@ pub record RulesGood (nodes rules : List ℕ) : Type 0 where
 pub record RowsGood (rows : List ℕ) : Type 0 where
   pub symbol : (r : ℕ) → r < inputRowCount rows → inputRow rows r .symbol < 16
   pub few : inputRowCount rows ≤ 512
-
-pub nodes-good : (C : Contract) → Established C → NodesGood (C .transformation .counts) (C .transformation .nodes)
-nodes-good C known = record { symbols = C .transformation .symbols; few = known .nodes .few; node = known .node }
 
 pub rules-good : (C : Contract) → Established C → RulesGood (C .transformation .nodes) (C .transformation .rules)
 rules-good C known =
@@ -130,7 +121,7 @@ pub no-rules-marked : (rules : List ℕ) (s k : ℕ) (marks : List ℕ) → Next
 no-rules-marked rules s k marks next = record { marked = λ r h e. absurd (next .none r (omega arith) h e) }
 
 -- a node refers to smaller nodes
-module _ {counts nodes : List ℕ} (good : NodesGood counts nodes) (n : ℕ) (hn : n < nodeCount nodes) where
+module _ {counts nodes : List ℕ} (good : GoodNodes counts nodes) (n : ℕ) (hn : n < nodeCount nodes) where
   abbrev node : Node
   node = nodeAt nodes n
 

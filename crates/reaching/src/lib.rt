@@ -6,8 +6,9 @@ ghost use Prim.Native.Nat.{ℕ, _+_, _*_, _/_, _<_, _≤_};
 ghost use lib.ListN.{length, getD, set};
 ghost use lib.Dec.{ltb};
 ghost use Rattle.model.specs.Tables.{inputRowCount, nodeCount, ruleAt, ruleCount};
+ghost use Rattle.model.proofs.Laws.Established.{GoodNodes};
 ghost use Rattle.kind_words.specs.Kind.{ListsFor, RulesChained, listsLength};
-ghost use Rattle.reaching.specs.Marks.{markedIf, referredMarked, Closed, RulesMarked, counted, NodesGood, RulesGood, RowsGood};
+ghost use Rattle.reaching.specs.Marks.{markedIf, referredMarked, Closed, RulesMarked, counted, RulesGood, RowsGood};
 ghost use Rattle.reaching.specs.Listing.{Listing, SymbolListed, ListedTo};
 use chains::chain_rows;
 use chains::chain_rules;
@@ -32,7 +33,7 @@ fn mark(marks: &mut [u16], used: bool, n: u16)
 
 // Marks what node n refers to, if it is marked.
 fn mark_referred(counts: &[u16], nodes: &[u16], marks: &mut [u16], n: usize)
-    requires { ⌜ NodesGood (now counts) (now nodes) × (n < nodeCount (now nodes)) × (nodeCount (now nodes) ≤ length (now marks)) ⌝ }
+    requires { ⌜ GoodNodes (now counts) (now nodes) × (n < nodeCount (now nodes)) × (nodeCount (now nodes) ≤ length (now marks)) ⌝ }
     ensures { λ _. ⌜ now (marks .exit) ≡ referredMarked (now (counts .entry)) (now (nodes .entry)) (now (marks .entry)) n ⌝ }
 {
     if marks[n] == 1 {
@@ -45,7 +46,7 @@ fn mark_referred(counts: &[u16], nodes: &[u16], marks: &mut [u16], n: usize)
 
 // Marks whatever a marked node refers to, directly or below: the nodes in descending order.
 fn mark_all_referred(counts: &[u16], nodes: &[u16], marks: &mut [u16])
-    requires { ⌜ NodesGood (now counts) (now nodes) × (nodeCount (now nodes) ≤ length (now marks)) ⌝ }
+    requires { ⌜ GoodNodes (now counts) (now nodes) × (nodeCount (now nodes) ≤ length (now marks)) ⌝ }
     ensures { λ _. ⌜ Closed (now (counts .entry)) (now (nodes .entry)) 0 (now (marks .entry)) (now (marks .exit)) ⌝ }
 {
     let mut n = nodes.len() / 5;
@@ -129,7 +130,7 @@ fn list_reached(
     lists: &mut [u16],
     start: usize,
 ) -> usize
-    requires { ⌜ NodesGood (now counts) (now nodes) × RulesGood (now nodes) (now rules) × (symbol .0 < 16) × RulesChained (now rules) (now lists) × (64 + ruleCount (now rules) ≤ start) × (start + nodeCount (now nodes) ≤ length (now lists)) × (nodeCount (now nodes) ≤ length (now marks)) ⌝ }
+    requires { ⌜ GoodNodes (now counts) (now nodes) × RulesGood (now nodes) (now rules) × (symbol .0 < 16) × RulesChained (now rules) (now lists) × (64 + ruleCount (now rules) ≤ start) × (start + nodeCount (now nodes) ≤ length (now lists)) × (nodeCount (now nodes) ≤ length (now marks)) ⌝ }
     ensures { λ r. ⌜ SymbolListed (now (counts .entry)) (now (nodes .entry)) (now (rules .entry)) (symbol .0) start (now (lists .entry)) (now (lists .exit)) r ⌝ }
 {
     mark_rules(rules, lists, symbol, marks);
@@ -147,7 +148,7 @@ fn list_symbol(
     lists: &mut [u16],
     start: usize,
 ) -> usize
-    requires { ⌜ NodesGood (now counts) (now nodes) × RulesGood (now nodes) (now rules) × (symbol .0 < 16) × RulesChained (now rules) (now lists) × (64 + ruleCount (now rules) ≤ start) × (start + nodeCount (now nodes) ≤ length (now lists)) ⌝ }
+    requires { ⌜ GoodNodes (now counts) (now nodes) × RulesGood (now nodes) (now rules) × (symbol .0 < 16) × RulesChained (now rules) (now lists) × (64 + ruleCount (now rules) ≤ start) × (start + nodeCount (now nodes) ≤ length (now lists)) ⌝ }
     ensures { λ r. ⌜ SymbolListed (now (counts .entry)) (now (nodes .entry)) (now (rules .entry)) (symbol .0) start (now (lists .entry)) (now (lists .exit)) r ⌝ }
 {
     if has_rules(rules, lists, symbol) {
@@ -179,7 +180,7 @@ fn list_nodes(
     lists: &mut [u16],
     start: usize,
 ) -> usize
-    requires { ⌜ NodesGood (now counts) (now nodes) × RulesGood (now nodes) (now rules) × RulesChained (now rules) (now lists) × (64 + ruleCount (now rules) ≤ start) × (start + 16 * nodeCount (now nodes) ≤ length (now lists)) × (length (now lists) < 65536) ⌝ }
+    requires { ⌜ GoodNodes (now counts) (now nodes) × RulesGood (now nodes) (now rules) × RulesChained (now rules) (now lists) × (64 + ruleCount (now rules) ≤ start) × (start + 16 * nodeCount (now nodes) ≤ length (now lists)) × (length (now lists) < 65536) ⌝ }
     ensures { λ r. ⌜ ListedTo (now (counts .entry)) (now (nodes .entry)) (now (rules .entry)) start 16 r (now (lists .entry)) (now (lists .exit)) ⌝ }
 {
     let mut end: usize = start;
@@ -216,7 +217,7 @@ pub fn most_lists() -> [u16; 4928] {
 
 // Fills the table of lists.
 pub fn fill_lists(counts: &[u16], rows: &[u16], nodes: &[u16], rules: &[u16], lists: &mut [u16])
-    requires { ⌜ NodesGood (now counts) (now nodes) × RulesGood (now nodes) (now rules) × RowsGood (now rows) × (listsLength (now rows) (now nodes) (now rules) ≤ length (now lists)) × (length (now lists) < 65536) ⌝ }
+    requires { ⌜ GoodNodes (now counts) (now nodes) × RulesGood (now nodes) (now rules) × RowsGood (now rows) × (listsLength (now rows) (now nodes) (now rules) ≤ length (now lists)) × (length (now lists) < 65536) ⌝ }
     ensures { λ _. ⌜ ListsFor (now (counts .entry)) (now (nodes .entry)) (now (rules .entry)) (now (rows .entry)) (now (lists .exit)) ⌝ }
 {
     chain_rules(rules, lists);

@@ -5,7 +5,7 @@
 // recursion on rows whose numbers fall.
 ghost use mathlib.Core.Path.{_≡_};
 ghost use Prim.Native.Nat.{ℕ, _+_, _≤_, _<_, _^_};
-ghost use lib.ListN.{length, getD, replicate};
+ghost use lib.ListN.{length, getD};
 ghost use lib.Seq.{sets};
 ghost use Rattle.foundation.specs.Search.{first};
 ghost use Rattle.model.specs.Rows.{rowCount};
@@ -52,17 +52,9 @@ fn first_wrong_row(rows: &[u16]) -> usize
     count
 }
 
-// Room for the sizes of the trees of 64 rows.
-fn few_sizes() -> [usize; 64]
-    ensures { λ r. ⌜ r ≡ replicate 64 0 ⌝ }
-{
-    [0usize; 64]
-}
-
-// Room for the sizes of the trees of as many rows as there may be.
-fn most_sizes() -> [usize; 4096]
-    ensures { λ r. ⌜ r ≡ replicate 4096 0 ⌝ }
-{
+// Room for the sizes of the trees of as many rows as there may be; in a function of its own, so that proofs see its length
+// alone.
+fn most_sizes() -> [usize; 4096] {
     [0usize; 4096]
 }
 
@@ -101,14 +93,14 @@ fn size_with(rows: &[u16], row: usize, most: usize, sizes: &mut [usize]) -> usiz
     sizes[row]
 }
 
-// The same, with room of its own.
+// The same, with room of its own: for 64 rows or for as many as there may be.
 fn tree_size(rows: &[u16], row: usize, most: usize) -> usize
     requires { ⌜ NoneWrong (now rows) ⌝ }
     requires { ⌜ (row < rowCount (now rows)) × (row < 4096) × (1 ≤ most) × (most < 2 ^ 63) ⌝ }
     ensures { λ r. ⌜ r ≡ sizeWithin most (now (rows .entry)) row ⌝ }
 {
     if row < 64 {
-        let mut sizes = few_sizes();
+        let mut sizes = [0usize; 64];
         return size_with(rows, row, most, &mut sizes);
     }
     let mut sizes = most_sizes();

@@ -1,7 +1,8 @@
 -- Preparation makes of an admitted contract what the rounds work with; its layout has the contract's states.
 use native.Mathlib.Omega.{arith}
+use Rattle.model.proofs.Laws.Established.{established-nodes}
 use Rattle.layouts.specs.Counts.{small-counts, offsets-inside}
-use Rattle.reaching.specs.Marks.{nodes-good, rules-good, rows-good}
+use Rattle.reaching.specs.Marks.{rules-good, rows-good}
 use Rattle.checking.proofs.Preparing.{stage-at}
 use Rattle.checking.proofs.Ending.{ended-at-states}
 use borrow.Author.Needs.{needs}
@@ -17,7 +18,7 @@ offsets-of-requires c κs = (small-counts _ (c .before .before .before .before .
 fill-lists-requires : tie.Need-fill-lists-requires
 fill-lists-requires c κs =
     let pre = c .before .before .before .before .before .before .before .before .before .before .before .before .before .pre in
-    (nodes-good _ (pre .0), rules-good _ (pre .0), rows-good _ (pre .0), pre .3, pre .4)
+    (established-nodes _ (pre .0), rules-good _ (pre .0), rows-good _ (pre .0), pre .3, pre .4)
 
 states-marked-requires : tie.Need-states-marked-requires
 states-marked-requires c κs = omega (arith, c .before .before .before .before .before .before .before .before .before .before .before .before .before .before .before .before .pre .0 .inputMarks, c .before .before .before .before .before .before .before .before .before .before .before .before .before .before .before .before .pre .0 .inputStates .≤most)

@@ -1,7 +1,8 @@
 -- Preparation makes of an admitted contract what the kind of a document asks for.
 use borrow.Author.Needs.{needs}
+use Rattle.model.proofs.Laws.Established.{established-nodes}
 use Rattle.layouts.specs.Counts.{small-counts, offsets-inside}
-use Rattle.reaching.specs.Marks.{nodes-good, rules-good, rows-good}
+use Rattle.reaching.specs.Marks.{rules-good, rows-good}
 use Rattle.judging.specs.Steps.{prepared-at, kind-at-states}
 use Rattle.judging.proofs.kind_with.Statement.{statement}
 use Rattle.judging.proofs.kind_with.Tie as tie
@@ -18,7 +19,7 @@ fill-lists-requires : tie.Need-fill-lists-requires
 fill-lists-requires c κs =
     let pre = c .before .before .before .before .before .before .before .before .before .before .pre in
     let k = pre .0 .established in
-    (nodes-good _ k, rules-good _ k, rows-good _ k, pre .5, pre .6)
+    (established-nodes _ k, rules-good _ k, rows-good _ k, pre .5, pre .6)
 
 document-kind-requires : tie.Need-document-kind-requires
 document-kind-requires c κs =

@@ -37,6 +37,12 @@ pub data GoodNode (S : ℕ) (counts : List ℕ) (k : ℕ) (n : Node) : Type 0 wh
       → (2 ≤ countOf counts (n .name) → n .second < k)
       → GoodNode S counts k n
 
+-- a table of nodes
+pub record GoodNodes (counts nodes : List ℕ) : Type 0 where
+  pub symbols : ℕ
+  pub few : nodeCount nodes ≤ 256
+  pub node : (k : ℕ) → k < nodeCount nodes → GoodNode symbols counts k (nodeAt nodes k)
+
 pub record GoodRule (S : ℕ) (counts nodes : List ℕ) (r : Rule) : Type 0 where
   pub procedure : r .procedure < length counts
   pub symbol : r .symbol < S
@@ -67,3 +73,6 @@ pub record Established (C : Contract) : Type 0 where
   pub rule : (r : ℕ) → r < ruleCount (C .transformation .rules)
       → GoodRule (C .transformation .symbols) (C .transformation .counts) (C .transformation .nodes) (ruleAt (C .transformation .rules) r)
   pub facts : factTotal (C .output .states) (C .transformation .counts) ≤ 256
+
+pub established-nodes : (C : Contract) → Established C → GoodNodes (C .transformation .counts) (C .transformation .nodes)
+established-nodes C known = record { symbols = C .transformation .symbols; few = known .nodes .few; node = known .node }
