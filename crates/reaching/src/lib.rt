@@ -14,8 +14,6 @@ use chains::chain_rows;
 use chains::chain_rules;
 use chains::rows_from;
 use lanes::place;
-use tables::Node;
-use tables::Rule;
 use tables::Symbol;
 use tables::node_at;
 use tables::reference_count;
