@@ -92,7 +92,7 @@ same-length-12 c = search needs
 returns-3 : tie.Need-returns-3
 returns-3 c =
     let reached = goes _ _ _ _ _ (c .before .before .before .before .before .before .before .before .before .before .before .before .all-rounds .result .ended) _ (c .before .before .before .ended .given .1) (c .before .before .before .before .before .before .before .before .before .before .before .before .all-rounds .ensures) in
-    passed _ (reached .between) (c .if1 .left)
+    passed _ (reached .between) (omega arith)
 
 pub list-rounds-spec : {M : Type 1} → statement M
 list-rounds-spec =

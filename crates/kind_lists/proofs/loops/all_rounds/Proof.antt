@@ -105,7 +105,7 @@ same-length-15 : tie.Need-same-length-15 Inv-loop μ-loop
 same-length-15 c = c .before .loop .inv .0 .holds .wordRoom ∙ sym (c .before .before .before .before .before .before .before .before .before .before .before .before .before .before .before .before .before .pre .5 .holds .wordRoom)
 
 returns-3 : tie.Need-returns-3 Inv-loop μ-loop
-returns-3 c = record { between = c .before .loop .inv .0; whole = λ few. c .loop-test .left }
+returns-3 c = record { between = c .before .loop .inv .0; whole = λ few. omega arith }
 
 pub all-rounds-spec : {M : Type 1} → statement M
 all-rounds-spec =
