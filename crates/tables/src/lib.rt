@@ -4,7 +4,7 @@
 // where another is due does not build. A size (how many symbols there are) and a node or row number are plain numbers.
 ghost use mathlib.Core.Path.{_≡_};
 ghost use Prim.Native.Nat.{_<_};
-ghost use lib.ListN.{getD};
+ghost use lib.ListN.{getD, length};
 ghost use Rattle.model.specs.Rows.{rowAt, rowCount};
 ghost use Rattle.model.specs.Tables.{inputRow, inputRowCount, nodeAt, nodeCount, ruleAt, ruleCount};
 ghost use Rattle.model.specs.Admission.{references};
@@ -70,6 +70,14 @@ pub fn input_row_at(rows: &[u16], k: usize) -> InputRow
         left: InputState(rows[4 * k + 2]),
         right: InputState(rows[4 * k + 3]),
     }
+}
+
+// The state at place k of an output table.
+pub fn output_state_at(table: &[u16], k: usize) -> OutputState
+    requires { ⌜ k < length (now table) ⌝ }
+    ensures { λ r. ⌜ r .0 ≡ getD (now (table .entry)) k 0 ⌝ }
+{
+    OutputState(table[k])
 }
 
 // Expression node k.
