@@ -1,2 +1,2 @@
--- What the tests of a kind are promised to be.
-pub mod Marked
+-- The words that tell what a kind says of its trees, and what they tell.
+pub mod Verdicts

@@ -1,43 +1,72 @@
-// What a kind says of its trees: whether they are of the input type, and whether they break the contract.
+// What a kind says of its trees: whether they are of the input type, and whether they break the contract. Two words tell it,
+// which are made once for a contract.
 ghost use mathlib.Core.Path.{_≡_};
-ghost use Prim.Native.Nat.{_≤_};
+ghost use Prim.Native.Nat.{ℕ, _+_, _*_, _^_, _<_, _≤_};
 ghost use lib.ListN.{length};
-ghost use Rattle.breaking.specs.Marked.{someMarked, IsOfInputType, IsWrongOutput, IsBreaking};
+ghost use Rattle.foundation.specs.Words.{word, one-if};
+ghost use Rattle.foundation.specs.Tests.{same};
+ghost use Rattle.model.specs.Tables.{markAt};
+ghost use Rattle.breaking.specs.Verdicts.{accepting, mistaken, breaking, marked, VerdictsOf};
 
-// Whether a state that has the mark is in the word.
-fn some_marked(marks: &[u16], mark: u16, word: u64) -> bool
-    requires { ⌜ length (now marks) ≤ 64 ⌝ }
-    ensures { λ r. ⌜ r ≡ someMarked (now (marks .entry)) mark word ⌝ }
+// A bit for each input state that is accepted, and one for each output state that is not.
+pub struct Verdicts {
+    pub accepted: u64,
+    pub refused: u64,
+}
+
+// A word of bits below a place, with the bit at the place where it is in.
+fn with_bit(word: u64, place: usize, is_in: bool) -> u64
+    requires { ⌜ (place < 64) × (word < 2 ^ place) ⌝ }
+    ensures { λ r. ⌜ r ≡ word + one-if «is_in» * 2 ^ place ⌝ }
 {
-    let mut found = false;
+    if is_in {
+        return word + (1u64 << (place as u64));
+    }
+    word
+}
+
+// The states that have this mark, as a word.
+fn states_marked(marks: &[u16], mark: u16) -> u64
+    requires { ⌜ length (now marks) ≤ 64 ⌝ }
+    ensures { λ r. ⌜ r ≡ marked (now (marks .entry)) mark ⌝ }
+{
+    let mut states = 0u64;
     let mut q: usize = 0;
     while q < marks.len() {
-        found = found | ((marks[q] == mark) & ((word >> (q as u64)) % 2 == 1));
+        states = with_bit(states, q, marks[q] == mark);
         q += 1;
     }
-    found
+    states
 }
 
-// Whether an accepted input state is in a kind; `input` are the accept marks of the input type.
-pub fn of_input_type(input: &[u16], kind: &[u64; 6]) -> bool
-    requires { ⌜ length (now input) ≤ 64 ⌝ }
-    ensures { λ r. ⌜ IsOfInputType (now (input .entry)) (now (kind .entry)) r ⌝ }
+// The two words of a contract, from the accept marks of its types.
+pub fn verdicts_of(input_marks: &[u16], output_marks: &[u16]) -> Verdicts
+    requires { ⌜ (length (now «input_marks») ≤ 64) × (length (now «output_marks») ≤ 64) ⌝ }
+    ensures { λ r. ⌜ VerdictsOf (now («input_marks» .entry)) (now («output_marks» .entry)) r ⌝ }
 {
-    some_marked(input, 1, kind[0])
+    Verdicts {
+        accepted: states_marked(input_marks, 1),
+        refused: states_marked(output_marks, 0),
+    }
 }
 
-// Whether a fact of procedure 0 with a state not accepted is in a kind; `output` are the accept marks of the output type.
-pub fn has_wrong_output(output: &[u16], kind: &[u64; 6]) -> bool
-    requires { ⌜ length (now output) ≤ 64 ⌝ }
-    ensures { λ r. ⌜ IsWrongOutput (now (output .entry)) (now (kind .entry)) r ⌝ }
+// Whether an accepted input state is in a kind.
+pub fn of_input_type(verdicts: Verdicts, kind: &[u64; 6]) -> bool
+    ensures { λ r. ⌜ r ≡ accepting (verdicts .accepted) (now (kind .entry)) ⌝ }
 {
-    some_marked(output, 0, kind[1])
+    kind[0] & verdicts.accepted != 0
 }
 
-// Whether a kind breaks the contract of these accept marks.
-pub fn breaks(input: &[u16], output: &[u16], kind: &[u64; 6]) -> bool
-    requires { ⌜ (length (now input) ≤ 64) × (length (now output) ≤ 64) ⌝ }
-    ensures { λ r. ⌜ IsBreaking (now (input .entry)) (now (output .entry)) (now (kind .entry)) r ⌝ }
+// Whether a fact of procedure 0 with a state not accepted is in a kind.
+pub fn has_wrong_output(verdicts: Verdicts, kind: &[u64; 6]) -> bool
+    ensures { λ r. ⌜ r ≡ mistaken (verdicts .refused) (now (kind .entry)) ⌝ }
 {
-    of_input_type(input, kind) & has_wrong_output(output, kind)
+    kind[1] & verdicts.refused != 0
+}
+
+// Whether a kind breaks the contract.
+pub fn breaks(verdicts: Verdicts, kind: &[u64; 6]) -> bool
+    ensures { λ r. ⌜ r ≡ breaking (verdicts .accepted) (verdicts .refused) (now (kind .entry)) ⌝ }
+{
+    of_input_type(verdicts, kind) & has_wrong_output(verdicts, kind)
 }

@@ -1,9 +1,9 @@
 -- Masks: five words that show the input states and the facts which a symbol can see of a child. Kinds that agree under the
 -- masks are of one class: the symbol makes the same kind of them.
 use mathlib.Core.Path.{_≡_, refl, ap, sym, _∙_}
-use mathlib.Core.List.{List}
+use mathlib.Core.List.{List, [], _∷_}
 use mathlib.Core.Bool.{Bool, true}
-use Prim.Native.Nat.{ℕ, suc, _+_, _*_, _/_, _%_, _^_, _<_}
+use Prim.Native.Nat.{ℕ, suc, _+_, _*_, _/_, _%_, _^_, _≤_, _<_}
 use native.Mathlib.Nat.{pow-suc, mul-comm}
 use native.Mathlib.Omega.{arith}
 use lib.Arith.{digits-lt}
@@ -51,6 +51,15 @@ pub record Covers (C : Contract) (s : ℕ) (masks : Child → List ℕ) : Type 0
       → bit (getD (masks left) 0 0) (inputRow (C .input .rows) k .left) ≡ true
   pub rightStates : (k : ℕ) → k < inputRowCount (C .input .rows) → inputRow (C .input .rows) k .symbol ≡ s
       → bit (getD (masks right) 0 0) (inputRow (C .input .rows) k .right) ≡ true
+
+-- the mask of symbol s: five words a symbol
+abbrev pub maskIn : List ℕ → ℕ → List ℕ
+maskIn masks s =
+    getD masks (5 * s) 0 ∷ getD masks (5 * s + 1) 0 ∷ getD masks (5 * s + 2) 0 ∷ getD masks (5 * s + 3) 0 ∷ getD masks (5 * s + 4) 0 ∷ []
+
+-- the masks of all symbols show what the symbols can see
+pub record Covered (C : Contract) (leftMasks rightMasks : List ℕ) : Type 0 where
+  pub covers : (s : ℕ) → 1 ≤ s → s < C .transformation .symbols → Covers C s (onSide (maskIn leftMasks s) (maskIn rightMasks s))
 
 module _ (C : Contract) (known : Established C) where
   -- a fact that the mask shows

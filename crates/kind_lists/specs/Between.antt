@@ -12,7 +12,7 @@ use Rattle.model.specs.Facts.{onSide}
 use Rattle.model.specs.Kinds.{nextKind}
 use Rattle.model.specs.Rounds.{kindAutomaton, ListedKind, kindAt, roundTo, round, rounds}
 use Rattle.model.proofs.Laws.Established.{Established}
-use Rattle.classes.specs.Masks.{AgreeUnder, agree-self, class-agree}
+use Rattle.classes.specs.Masks.{AgreeUnder, agree-self, class-agree, maskIn, Covered}
 use Rattle.model.proofs.Rounds.Growth.{Begins, begins-length, begins-state, round-begins, rounds-beginning}
 use Rattle.model.proofs.Rounds.Places.{place-first, place-last}
 use Rattle.model.proofs.Rounds.Covering.{HasState, kinds-decided, round-lists}
@@ -21,7 +21,7 @@ use Rattle.model.specs.Meaning.{NoneBreaks}
 use Rattle.model.proofs.Rounds.Buffers.{beginning-five}
 use Rattle.kind_lists.specs.Held.{kindIn, Holds, kind-held}
 use Rattle.kind_lists.specs.Steps.{LeftSame, RightSame, Marked, At, listAt}
-use Rattle.kind_lists.specs.Marks.{maskIn, agrees-under, MarksOf, MarkedFrom, Covered}
+use Rattle.kind_lists.specs.Marks.{agrees-under, MarksOf, MarkedFrom}
 
 module _ (C : Contract) where
   -- the buffers hold the rows of rounds 0 to `height`; those below `before` stood in the round before

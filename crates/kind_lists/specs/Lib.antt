@@ -1,9 +1,8 @@
 -- Checking: what its functions compute, over the numbers and words of the lent buffers.
 pub mod Listing
 pub mod Held
-pub mod Verdicts
 pub mod Steps
-pub mod Stage
+pub mod Standing
 pub mod Marks
 pub mod Between
 pub mod Closing

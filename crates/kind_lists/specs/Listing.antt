@@ -1,14 +1,14 @@
 -- The list of kinds in the lent buffers: where a kind stands in it, and what becomes of a kind that is offered to it.
-use mathlib.Core.Bool.{Bool, true, false, not, _&&_}
+use mathlib.Core.Bool.{Bool, true, false, _&&_}
 use mathlib.Core.List.{List, [], _∷_}
 use mathlib.Core.Path.{_≡_}
 use Prim.Native.Nat.{ℕ, _+_, _*_, _≤_}
-use lib.Bits.{bitAnd}
 use lib.Dec.{eqb, ltb}
 use lib.ListN.{getD, length, take, set}
 use Rattle.foundation.specs.Tests.{choose}
 use Rattle.foundation.specs.Search.{first}
 use Rattle.foundation.specs.Lists.{zeroFilled}
+use Rattle.breaking.specs.Verdicts.{breaking}
 use Rattle.kind_lists.specs.declared.listing.Found.{Found}
 use Rattle.kind_lists.specs.declared.listing.Found.the-variants as found
 use Rattle.kind_lists.specs.declared.listing.Offered.{Offered}
@@ -52,10 +52,6 @@ withKind words j kind =
 
 abbrev pub withRow : List ℕ → (j symbol left right : ℕ) → List ℕ
 withRow rows j symbol left right = set (set (set rows (3 * j) symbol) (3 * j + 1) left) (3 * j + 2) right
-
--- some accepted input state is in the kind, and some output state of procedure 0 that is not accepted
-abbrev pub breaking : (accepted refused : ℕ) → List ℕ → Bool
-breaking accepted refused kind = not (eqb (bitAnd (getD kind 0 0) accepted) 0) && not (eqb (bitAnd (getD kind 1 0) refused) 0)
 
 -- n numbers that stand, and zeros
 abbrev pub clearedFrom : List ℕ → ℕ → List ℕ

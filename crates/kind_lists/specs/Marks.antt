@@ -8,16 +8,9 @@ use borrow.Author.Tests.{eqb-true}
 use lib.Bits.{bitAnd}
 use lib.ListN.{length, getD}
 use Rattle.foundation.specs.Words.{bit}
-use Rattle.model.specs.Tables.{Contract}
-use Rattle.model.specs.Facts.{onSide}
-use Rattle.classes.specs.Masks.{AgreeUnder, Covers}
+use Rattle.classes.specs.Masks.{AgreeUnder, maskIn}
 use Rattle.kind_lists.specs.Listing.{paddedKind, sameWords}
 use Rattle.kind_lists.specs.Held.{kindIn, all-five}
-
--- the mask of symbol s: five words a symbol
-abbrev pub maskIn : List ℕ → ℕ → List ℕ
-maskIn masks s =
-    getD masks (5 * s) 0 ∷ getD masks (5 * s + 1) 0 ∷ getD masks (5 * s + 2) 0 ∷ getD masks (5 * s + 3) 0 ∷ getD masks (5 * s + 4) 0 ∷ []
 
 -- what a mask shows of a kind
 abbrev pub shown : (mask kind : List ℕ) → List ℕ
@@ -60,7 +53,3 @@ pub record MarkedFrom (words masks : List ℕ) (symbols before stood : ℕ) (fir
   pub long : length marked ≡ length firsts
   pub kept : (j : ℕ) → j < before → getD marked j 0 ≡ getD firsts j 0
   pub marks : (j : ℕ) → before ≤ j → j < stood → MarksOf words masks symbols j (getD marked j 0)
-
--- the masks of all symbols show what the symbols can see
-pub record Covered (C : Contract) (leftMasks rightMasks : List ℕ) : Type 0 where
-  pub covers : (s : ℕ) → 1 ≤ s → s < C .transformation .symbols → Covers C s (onSide (maskIn leftMasks s) (maskIn rightMasks s))

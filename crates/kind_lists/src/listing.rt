@@ -2,9 +2,11 @@
 ghost use mathlib.Core.Path.{_≡_};
 ghost use Prim.Native.Nat.{_+_, _*_, _-_, _<_, _≤_};
 ghost use lib.ListN.{length};
-ghost use Rattle.kind_lists.specs.Listing.{sameWords, sameKind, kindPlace, foundAt, kindListed, withKind, withRow, paddedKind, breaking, clearedFrom, offering, wasFound, Room, Becomes};
+ghost use Rattle.kind_lists.specs.Listing.{sameWords, sameKind, kindPlace, foundAt, kindListed, withKind, withRow, paddedKind, clearedFrom, offering, wasFound, Room, Becomes};
 ghost use mathlib.Core.Bool.{_&&_};
 ghost use lib.Dec.{ltb};
+use breaking::Verdicts;
+use breaking::breaks;
 use tables::Symbol;
 
 // Where a kind stands in the list.
@@ -23,12 +25,6 @@ pub enum Offered {
     Breaks,
     // It is not listed, and no row is left.
     Full,
-}
-
-// What tells a breaking kind: a bit for each input state that is accepted, and one for each output state that is not.
-pub struct Verdicts {
-    pub accepted: u64,
-    pub refused: u64,
 }
 
 // Row j of the words, with a sixth word 0.
@@ -167,13 +163,6 @@ pub fn store_kind(words: &mut [u64], j: usize, kind: &[u64; 6])
     words[5 * j + 2] = kind[2];
     words[5 * j + 3] = kind[3];
     words[5 * j + 4] = kind[4];
-}
-
-// Whether a kind breaks the contract.
-pub fn breaks(verdicts: Verdicts, kind: &[u64; 6]) -> bool
-    ensures { λ r. ⌜ r ≡ breaking (verdicts .accepted) (verdicts .refused) (now (kind .entry)) ⌝ }
-{
-    (kind[0] & verdicts.accepted != 0) & (kind[1] & verdicts.refused != 0)
 }
 
 // A kind with its row is offered to the list of the first `count` rows.

@@ -1,26 +1,22 @@
 // The rounds: each goes through the symbols, the left rows and the right rows, and offers the kinds of the pairs that could
 // be new.
-//
-// The functions of a round take the whole contract, also what they do not read of it: their promises speak of its kinds.
 ghost use mathlib.Core.Path.{_≡_};
 ghost use Prim.Native.Nat.{ℕ, _+_, _*_, _≤_, _<_};
 ghost use lib.ListN.{getD, length};
 ghost use Rattle.foundation.specs.Words.{bit};
 ghost use Rattle.foundation.specs.Tests.{choose};
 ghost use lib.Dec.{ltb};
-ghost use Rattle.model.specs.Tables.{contract};
-ghost use Rattle.lanes.specs.Layouts.{layoutOf};
-ghost use Rattle.kind_lists.specs.Stage.{Stage};
-ghost use Rattle.kind_lists.specs.Steps.{progressOf, At, Outcome};
-ghost use Rattle.kind_lists.specs.Marks.{Covered};
+ghost use Rattle.prepared.specs.Parts.{contractIn, Ready};
+ghost use Rattle.kind_lists.specs.Steps.{progressOf, Outcome};
+ghost use Rattle.kind_lists.specs.Standing.{Stands, Comes, InRound, Starts, Ends};
+ghost use Rattle.classes.specs.Masks.{Covered};
 ghost use Rattle.kind_lists.specs.Between.{Between, Reached};
 use crate::listing::Offered;
-use crate::listing::Verdicts;
 use crate::listing::kind_at;
 use crate::listing::offer;
 use crate::marking::mark_rows;
-use kinds::next_kind;
-use lanes::Layout;
+use kinds::kind_of;
+use prepared::Prepared;
 use tables::Symbol;
 
 // How a stretch of work ends.
@@ -37,6 +33,24 @@ pub enum Progress {
 pub struct Rounds {
     pub before: usize,
     pub ended: Progress,
+}
+
+// A round over the rows below `stood`, under a limit; pairs of rows below `before` were visited.
+pub struct Round {
+    pub limit: usize,
+    pub before: usize,
+    pub stood: usize,
+}
+
+// A place in a round: the loops stand before the symbol over a left and a right row, and so many rows are listed.
+pub struct Place {
+    pub limit: usize,
+    pub before: usize,
+    pub stood: usize,
+    pub symbol: Symbol,
+    pub left: usize,
+    pub right: usize,
+    pub count: usize,
 }
 
 // What an offer to `count` rows comes to.
@@ -80,188 +94,109 @@ pub fn first_right(left: usize, before: usize) -> usize
 
 // The kind of the symbol over a left row and a right row is offered to the list.
 pub fn visit_pair(
-    symbols: usize,
-    input_states: usize,
-    layout: Layout,
-    offsets: &[u16; 16],
-    lists: &[u16],
-    counts: &[u16],
-    input_rows: &[u16],
-    input_marks: &[u16],
-    output_table: &[u16],
-    output_marks: &[u16],
-    nodes: &[u16],
-    rules: &[u16],
-    verdicts: Verdicts,
-    limit: usize,
-    before: usize,
-    stood: usize,
+    prepared: Prepared,
+    table: &[u16],
+    place: Place,
     lefts: &[u16],
     rights: &[u16],
-    count: usize,
-    symbol: Symbol,
-    left: usize,
-    right: usize,
     hints: &mut [u16],
     rows: &mut [u16],
     words: &mut [u64],
+    room: &mut [u64; 256],
 ) -> Progress
-    requires { ⌜ Stage (contract symbols «input_states» (layout .states) (now counts) (now «input_rows») (now «input_marks») (now «output_table») (now «output_marks») (now nodes) (now rules)) (layoutOf layout) (now offsets) (now lists) (verdicts .accepted) (verdicts .refused) × At (contract symbols «input_states» (layout .states) (now counts) (now «input_rows») (now «input_marks») (now «output_table») (now «output_marks») (now nodes) (now rules)) limit before stood (now lefts) (now rights) (symbol .0) left right count (now rows) (now words) × (symbol .0 < symbols) × (left < stood) × (right < stood) × (1 ≤ length (now hints)) ⌝ }
-    ensures { λ r. ⌜ Outcome (contract symbols «input_states» (layout .states) (now (counts .entry)) (now («input_rows» .entry)) (now («input_marks» .entry)) (now («output_table» .entry)) (now («output_marks» .entry)) (now (nodes .entry)) (now (rules .entry))) (λ (n : ℕ). At (contract symbols «input_states» (layout .states) (now (counts .entry)) (now («input_rows» .entry)) (now («input_marks» .entry)) (now («output_table» .entry)) (now («output_marks» .entry)) (now (nodes .entry)) (now (rules .entry))) limit before stood (now (lefts .entry)) (now (rights .entry)) (symbol .0) left (right + 1) n (now (rows .exit)) (now (words .exit))) limit (now (rows .exit)) (now (words .exit)) r ⌝ }
+    requires { ⌜ Ready prepared (now table) × Stands prepared (now table) place (now lefts) (now rights) (now rows) (now words) × InRound prepared place × (1 ≤ length (now hints)) ⌝ }
+    ensures { λ r. ⌜ Comes prepared (now (table .entry)) place (place .symbol .0) (place .left) (place .right + 1) (now (lefts .entry)) (now (rights .entry)) (now (rows .exit)) (now (words .exit)) r ⌝ }
 {
-    let left_kind = kind_at(words, left);
-    let right_kind = kind_at(words, right);
-    let kind = next_kind(
-        layout,
-        offsets,
-        lists,
-        counts,
-        input_rows,
-        output_table,
-        nodes,
-        rules,
-        symbol,
-        &left_kind,
-        &right_kind,
-    );
+    let symbol = place.symbol;
+    let left_kind = kind_at(words, place.left);
+    let right_kind = kind_at(words, place.right);
+    let kind = kind_of(prepared, table, symbol, &left_kind, &right_kind, room);
+    let verdicts = prepared.verdicts;
     let offered = offer(
         verdicts,
-        limit,
-        count,
+        place.limit,
+        place.count,
         symbol,
-        row_number(left),
-        row_number(right),
+        row_number(place.left),
+        row_number(place.right),
         &kind,
         hints,
         rows,
         words,
     );
-    after_offer(offered, count)
+    after_offer(offered, place.count)
 }
 
 // One right row: passed over where it is not the first of its class.
 pub fn right_row(
-    symbols: usize,
-    input_states: usize,
-    layout: Layout,
-    offsets: &[u16; 16],
-    lists: &[u16],
-    counts: &[u16],
-    input_rows: &[u16],
-    input_marks: &[u16],
-    output_table: &[u16],
-    output_marks: &[u16],
-    nodes: &[u16],
-    rules: &[u16],
-    verdicts: Verdicts,
-    limit: usize,
-    before: usize,
-    stood: usize,
+    prepared: Prepared,
+    table: &[u16],
+    place: Place,
     lefts: &[u16],
     rights: &[u16],
-    count: usize,
-    symbol: Symbol,
-    left: usize,
-    right: usize,
     hints: &mut [u16],
     rows: &mut [u16],
     words: &mut [u64],
+    room: &mut [u64; 256],
 ) -> Progress
-    requires { ⌜ Stage (contract symbols «input_states» (layout .states) (now counts) (now «input_rows») (now «input_marks») (now «output_table») (now «output_marks») (now nodes) (now rules)) (layoutOf layout) (now offsets) (now lists) (verdicts .accepted) (verdicts .refused) × At (contract symbols «input_states» (layout .states) (now counts) (now «input_rows») (now «input_marks») (now «output_table») (now «output_marks») (now nodes) (now rules)) limit before stood (now lefts) (now rights) (symbol .0) left right count (now rows) (now words) × (symbol .0 < symbols) × (left < stood) × (right < stood) × (1 ≤ length (now hints)) ⌝ }
-    ensures { λ r. ⌜ Outcome (contract symbols «input_states» (layout .states) (now (counts .entry)) (now («input_rows» .entry)) (now («input_marks» .entry)) (now («output_table» .entry)) (now («output_marks» .entry)) (now (nodes .entry)) (now (rules .entry))) (λ (n : ℕ). At (contract symbols «input_states» (layout .states) (now (counts .entry)) (now («input_rows» .entry)) (now («input_marks» .entry)) (now («output_table» .entry)) (now («output_marks» .entry)) (now (nodes .entry)) (now (rules .entry))) limit before stood (now (lefts .entry)) (now (rights .entry)) (symbol .0) left (right + 1) n (now (rows .exit)) (now (words .exit))) limit (now (rows .exit)) (now (words .exit)) r ⌝ }
+    requires { ⌜ Ready prepared (now table) × Stands prepared (now table) place (now lefts) (now rights) (now rows) (now words) × InRound prepared place × (1 ≤ length (now hints)) ⌝ }
+    ensures { λ r. ⌜ Comes prepared (now (table .entry)) place (place .symbol .0) (place .left) (place .right + 1) (now (lefts .entry)) (now (rights .entry)) (now (rows .exit)) (now (words .exit)) r ⌝ }
 {
-    if marked(rights, right, symbol) {
+    let symbol = place.symbol;
+    if marked(rights, place.right, symbol) {
         return visit_pair(
-            symbols,
-            input_states,
-            layout,
-            offsets,
-            lists,
-            counts,
-            input_rows,
-            input_marks,
-            output_table,
-            output_marks,
-            nodes,
-            rules,
-            verdicts,
-            limit,
-            before,
-            stood,
+            prepared,
+            table,
+            place,
             lefts,
             rights,
-            count,
-            symbol,
-            left,
-            right,
             hints,
             rows,
             words,
+            room,
         );
     }
-    Progress::Going(count)
+    Progress::Going(place.count)
 }
 
-// The right rows from a row on.
+// The right rows from the place on.
 pub fn right_rows(
-    symbols: usize,
-    input_states: usize,
-    layout: Layout,
-    offsets: &[u16; 16],
-    lists: &[u16],
-    counts: &[u16],
-    input_rows: &[u16],
-    input_marks: &[u16],
-    output_table: &[u16],
-    output_marks: &[u16],
-    nodes: &[u16],
-    rules: &[u16],
-    verdicts: Verdicts,
-    limit: usize,
-    before: usize,
-    stood: usize,
+    prepared: Prepared,
+    table: &[u16],
+    place: Place,
     lefts: &[u16],
     rights: &[u16],
-    count: usize,
-    symbol: Symbol,
-    left: usize,
-    from: usize,
     hints: &mut [u16],
     rows: &mut [u16],
     words: &mut [u64],
+    room: &mut [u64; 256],
 ) -> Progress
-    requires { ⌜ Stage (contract symbols «input_states» (layout .states) (now counts) (now «input_rows») (now «input_marks») (now «output_table») (now «output_marks») (now nodes) (now rules)) (layoutOf layout) (now offsets) (now lists) (verdicts .accepted) (verdicts .refused) × At (contract symbols «input_states» (layout .states) (now counts) (now «input_rows») (now «input_marks») (now «output_table») (now «output_marks») (now nodes) (now rules)) limit before stood (now lefts) (now rights) (symbol .0) left from count (now rows) (now words) × (symbol .0 < symbols) × (left < stood) × (from ≤ stood) × (1 ≤ length (now hints)) ⌝ }
-    ensures { λ r. ⌜ Outcome (contract symbols «input_states» (layout .states) (now (counts .entry)) (now («input_rows» .entry)) (now («input_marks» .entry)) (now («output_table» .entry)) (now («output_marks» .entry)) (now (nodes .entry)) (now (rules .entry))) (λ (n : ℕ). At (contract symbols «input_states» (layout .states) (now (counts .entry)) (now («input_rows» .entry)) (now («input_marks» .entry)) (now («output_table» .entry)) (now («output_marks» .entry)) (now (nodes .entry)) (now (rules .entry))) limit before stood (now (lefts .entry)) (now (rights .entry)) (symbol .0) left stood n (now (rows .exit)) (now (words .exit))) limit (now (rows .exit)) (now (words .exit)) r ⌝ }
+    requires { ⌜ Ready prepared (now table) × Stands prepared (now table) place (now lefts) (now rights) (now rows) (now words) × (place .symbol .0 < prepared .symbols) × (place .left < place .stood) × (place .right ≤ place .stood) × (1 ≤ length (now hints)) ⌝ }
+    ensures { λ r. ⌜ Comes prepared (now (table .entry)) place (place .symbol .0) (place .left) (place .stood) (now (lefts .entry)) (now (rights .entry)) (now (rows .exit)) (now (words .exit)) r ⌝ }
 {
-    let mut total: usize = count;
-    let mut right: usize = from;
-    while right < stood {
+    let mut total: usize = place.count;
+    let mut right: usize = place.right;
+    while right < place.stood {
+        let symbol = place.symbol;
+        let here = Place {
+            limit: place.limit,
+            before: place.before,
+            stood: place.stood,
+            symbol: symbol,
+            left: place.left,
+            right: right,
+            count: total,
+        };
         let step = right_row(
-            symbols,
-            input_states,
-            layout,
-            offsets,
-            lists,
-            counts,
-            input_rows,
-            input_marks,
-            output_table,
-            output_marks,
-            nodes,
-            rules,
-            verdicts,
-            limit,
-            before,
-            stood,
+            prepared,
+            table,
+            here,
             lefts,
             rights,
-            total,
-            symbol,
-            left,
-            right,
             hints,
             rows,
             words,
+            room,
         );
         let Progress::Going(next) = step else {
             return step;
@@ -274,124 +209,84 @@ pub fn right_rows(
 
 // One left row: passed over where it is not the first of its class.
 pub fn left_row(
-    symbols: usize,
-    input_states: usize,
-    layout: Layout,
-    offsets: &[u16; 16],
-    lists: &[u16],
-    counts: &[u16],
-    input_rows: &[u16],
-    input_marks: &[u16],
-    output_table: &[u16],
-    output_marks: &[u16],
-    nodes: &[u16],
-    rules: &[u16],
-    verdicts: Verdicts,
-    limit: usize,
-    before: usize,
-    stood: usize,
+    prepared: Prepared,
+    table: &[u16],
+    place: Place,
     lefts: &[u16],
     rights: &[u16],
-    count: usize,
-    symbol: Symbol,
-    left: usize,
     hints: &mut [u16],
     rows: &mut [u16],
     words: &mut [u64],
+    room: &mut [u64; 256],
 ) -> Progress
-    requires { ⌜ Stage (contract symbols «input_states» (layout .states) (now counts) (now «input_rows») (now «input_marks») (now «output_table») (now «output_marks») (now nodes) (now rules)) (layoutOf layout) (now offsets) (now lists) (verdicts .accepted) (verdicts .refused) × At (contract symbols «input_states» (layout .states) (now counts) (now «input_rows») (now «input_marks») (now «output_table») (now «output_marks») (now nodes) (now rules)) limit before stood (now lefts) (now rights) (symbol .0) left 0 count (now rows) (now words) × (symbol .0 < symbols) × (left < stood) × (1 ≤ length (now hints)) ⌝ }
-    ensures { λ r. ⌜ Outcome (contract symbols «input_states» (layout .states) (now (counts .entry)) (now («input_rows» .entry)) (now («input_marks» .entry)) (now («output_table» .entry)) (now («output_marks» .entry)) (now (nodes .entry)) (now (rules .entry))) (λ (n : ℕ). At (contract symbols «input_states» (layout .states) (now (counts .entry)) (now («input_rows» .entry)) (now («input_marks» .entry)) (now («output_table» .entry)) (now («output_marks» .entry)) (now (nodes .entry)) (now (rules .entry))) limit before stood (now (lefts .entry)) (now (rights .entry)) (symbol .0) (left + 1) 0 n (now (rows .exit)) (now (words .exit))) limit (now (rows .exit)) (now (words .exit)) r ⌝ }
+    requires { ⌜ Ready prepared (now table) × Stands prepared (now table) place (now lefts) (now rights) (now rows) (now words) × (place .symbol .0 < prepared .symbols) × (place .left < place .stood) × (place .right ≡ 0) × (1 ≤ length (now hints)) ⌝ }
+    ensures { λ r. ⌜ Comes prepared (now (table .entry)) place (place .symbol .0) (place .left + 1) 0 (now (lefts .entry)) (now (rights .entry)) (now (rows .exit)) (now (words .exit)) r ⌝ }
 {
-    if marked(lefts, left, symbol) {
-        let from = first_right(left, before);
+    let symbol = place.symbol;
+    if marked(lefts, place.left, symbol) {
+        let from = first_right(place.left, place.before);
+        let here = Place {
+            limit: place.limit,
+            before: place.before,
+            stood: place.stood,
+            symbol: symbol,
+            left: place.left,
+            right: from,
+            count: place.count,
+        };
         return right_rows(
-            symbols,
-            input_states,
-            layout,
-            offsets,
-            lists,
-            counts,
-            input_rows,
-            input_marks,
-            output_table,
-            output_marks,
-            nodes,
-            rules,
-            verdicts,
-            limit,
-            before,
-            stood,
+            prepared,
+            table,
+            here,
             lefts,
             rights,
-            count,
-            symbol,
-            left,
-            from,
             hints,
             rows,
             words,
+            room,
         );
     }
-    Progress::Going(count)
+    Progress::Going(place.count)
 }
 
 // All left rows.
 pub fn left_rows(
-    symbols: usize,
-    input_states: usize,
-    layout: Layout,
-    offsets: &[u16; 16],
-    lists: &[u16],
-    counts: &[u16],
-    input_rows: &[u16],
-    input_marks: &[u16],
-    output_table: &[u16],
-    output_marks: &[u16],
-    nodes: &[u16],
-    rules: &[u16],
-    verdicts: Verdicts,
-    limit: usize,
-    before: usize,
-    stood: usize,
+    prepared: Prepared,
+    table: &[u16],
+    place: Place,
     lefts: &[u16],
     rights: &[u16],
-    count: usize,
-    symbol: Symbol,
     hints: &mut [u16],
     rows: &mut [u16],
     words: &mut [u64],
+    room: &mut [u64; 256],
 ) -> Progress
-    requires { ⌜ Stage (contract symbols «input_states» (layout .states) (now counts) (now «input_rows») (now «input_marks») (now «output_table») (now «output_marks») (now nodes) (now rules)) (layoutOf layout) (now offsets) (now lists) (verdicts .accepted) (verdicts .refused) × At (contract symbols «input_states» (layout .states) (now counts) (now «input_rows») (now «input_marks») (now «output_table») (now «output_marks») (now nodes) (now rules)) limit before stood (now lefts) (now rights) (symbol .0) 0 0 count (now rows) (now words) × (symbol .0 < symbols) × (1 ≤ length (now hints)) ⌝ }
-    ensures { λ r. ⌜ Outcome (contract symbols «input_states» (layout .states) (now (counts .entry)) (now («input_rows» .entry)) (now («input_marks» .entry)) (now («output_table» .entry)) (now («output_marks» .entry)) (now (nodes .entry)) (now (rules .entry))) (λ (n : ℕ). At (contract symbols «input_states» (layout .states) (now (counts .entry)) (now («input_rows» .entry)) (now («input_marks» .entry)) (now («output_table» .entry)) (now («output_marks» .entry)) (now (nodes .entry)) (now (rules .entry))) limit before stood (now (lefts .entry)) (now (rights .entry)) (symbol .0 + 1) 0 0 n (now (rows .exit)) (now (words .exit))) limit (now (rows .exit)) (now (words .exit)) r ⌝ }
+    requires { ⌜ Ready prepared (now table) × Stands prepared (now table) place (now lefts) (now rights) (now rows) (now words) × (place .symbol .0 < prepared .symbols) × (place .left ≡ 0) × (place .right ≡ 0) × (1 ≤ length (now hints)) ⌝ }
+    ensures { λ r. ⌜ Comes prepared (now (table .entry)) place (place .symbol .0 + 1) 0 0 (now (lefts .entry)) (now (rights .entry)) (now (rows .exit)) (now (words .exit)) r ⌝ }
 {
-    let mut total: usize = count;
+    let mut total: usize = place.count;
     let mut left: usize = 0;
-    while left < stood {
+    while left < place.stood {
+        let symbol = place.symbol;
+        let here = Place {
+            limit: place.limit,
+            before: place.before,
+            stood: place.stood,
+            symbol: symbol,
+            left: left,
+            right: 0,
+            count: total,
+        };
         let step = left_row(
-            symbols,
-            input_states,
-            layout,
-            offsets,
-            lists,
-            counts,
-            input_rows,
-            input_marks,
-            output_table,
-            output_marks,
-            nodes,
-            rules,
-            verdicts,
-            limit,
-            before,
-            stood,
+            prepared,
+            table,
+            here,
             lefts,
             rights,
-            total,
-            symbol,
-            left,
             hints,
             rows,
             words,
+            room,
         );
         let Progress::Going(next) = step else {
             return step;
@@ -410,60 +305,43 @@ fn symbol_of(number: usize) -> Symbol
     Symbol(number as u16)
 }
 
-// One round over the rows below `stood`: all symbols.
+// One round: all symbols.
 pub fn one_round(
-    symbols: usize,
-    input_states: usize,
-    layout: Layout,
-    offsets: &[u16; 16],
-    lists: &[u16],
-    counts: &[u16],
-    input_rows: &[u16],
-    input_marks: &[u16],
-    output_table: &[u16],
-    output_marks: &[u16],
-    nodes: &[u16],
-    rules: &[u16],
-    verdicts: Verdicts,
-    limit: usize,
-    before: usize,
-    stood: usize,
+    prepared: Prepared,
+    table: &[u16],
+    round: Round,
     lefts: &[u16],
     rights: &[u16],
     hints: &mut [u16],
     rows: &mut [u16],
     words: &mut [u64],
+    room: &mut [u64; 256],
 ) -> Progress
-    requires { ⌜ Stage (contract symbols «input_states» (layout .states) (now counts) (now «input_rows») (now «input_marks») (now «output_table») (now «output_marks») (now nodes) (now rules)) (layoutOf layout) (now offsets) (now lists) (verdicts .accepted) (verdicts .refused) × At (contract symbols «input_states» (layout .states) (now counts) (now «input_rows») (now «input_marks») (now «output_table») (now «output_marks») (now nodes) (now rules)) limit before stood (now lefts) (now rights) 1 0 0 stood (now rows) (now words) × (1 ≤ length (now hints)) ⌝ }
-    ensures { λ r. ⌜ Outcome (contract symbols «input_states» (layout .states) (now (counts .entry)) (now («input_rows» .entry)) (now («input_marks» .entry)) (now («output_table» .entry)) (now («output_marks» .entry)) (now (nodes .entry)) (now (rules .entry))) (λ (n : ℕ). At (contract symbols «input_states» (layout .states) (now (counts .entry)) (now («input_rows» .entry)) (now («input_marks» .entry)) (now («output_table» .entry)) (now («output_marks» .entry)) (now (nodes .entry)) (now (rules .entry))) limit before stood (now (lefts .entry)) (now (rights .entry)) symbols 0 0 n (now (rows .exit)) (now (words .exit))) limit (now (rows .exit)) (now (words .exit)) r ⌝ }
+    requires { ⌜ Ready prepared (now table) × Starts prepared (now table) round (now lefts) (now rights) (now rows) (now words) × (1 ≤ length (now hints)) ⌝ }
+    ensures { λ r. ⌜ Ends prepared (now (table .entry)) round (now (lefts .entry)) (now (rights .entry)) (now (rows .exit)) (now (words .exit)) r ⌝ }
 {
-    let mut total: usize = stood;
+    let mut total: usize = round.stood;
     let mut symbol: usize = 1;
-    while symbol < symbols {
+    while symbol < prepared.symbols {
+        let here = Place {
+            limit: round.limit,
+            before: round.before,
+            stood: round.stood,
+            symbol: symbol_of(symbol),
+            left: 0,
+            right: 0,
+            count: total,
+        };
         let step = left_rows(
-            symbols,
-            input_states,
-            layout,
-            offsets,
-            lists,
-            counts,
-            input_rows,
-            input_marks,
-            output_table,
-            output_marks,
-            nodes,
-            rules,
-            verdicts,
-            limit,
-            before,
-            stood,
+            prepared,
+            table,
+            here,
             lefts,
             rights,
-            total,
-            symbol_of(symbol),
             hints,
             rows,
             words,
+            room,
         );
         let Progress::Going(next) = step else {
             return step;
@@ -474,38 +352,25 @@ pub fn one_round(
     Progress::Going(total)
 }
 
-// Rounds over the list of `stood` rows, until one adds nothing or there are more rows than marks. Of two rows below `before` the
-// pair was visited.
+// Rounds from one on, until one adds nothing or there are more rows than marks.
 pub fn all_rounds(
-    symbols: usize,
-    input_states: usize,
-    layout: Layout,
-    offsets: &[u16; 16],
-    lists: &[u16],
-    counts: &[u16],
-    input_rows: &[u16],
-    input_marks: &[u16],
-    output_table: &[u16],
-    output_marks: &[u16],
-    nodes: &[u16],
-    rules: &[u16],
-    verdicts: Verdicts,
-    limit: usize,
-    before: usize,
-    stood: usize,
+    prepared: Prepared,
+    table: &[u16],
     left_masks: &[u64],
     right_masks: &[u64],
+    round: Round,
     lefts: &mut [u16],
     rights: &mut [u16],
     hints: &mut [u16],
     rows: &mut [u16],
     words: &mut [u64],
+    room: &mut [u64; 256],
 ) -> Rounds
-    requires { ⌜ Stage (contract symbols «input_states» (layout .states) (now counts) (now «input_rows») (now «input_marks») (now «output_table») (now «output_marks») (now nodes) (now rules)) (layoutOf layout) (now offsets) (now lists) (verdicts .accepted) (verdicts .refused) × Covered (contract symbols «input_states» (layout .states) (now counts) (now «input_rows») (now «input_marks») (now «output_table») (now «output_marks») (now nodes) (now rules)) (now «left_masks») (now «right_masks») × (5 * symbols ≤ length (now «left_masks»)) × (5 * symbols ≤ length (now «right_masks»)) × (length (now rights) ≡ length (now lefts)) × Between (contract symbols «input_states» (layout .states) (now counts) (now «input_rows») (now «input_marks») (now «output_table») (now «output_marks») (now nodes) (now rules)) limit before stood (now rows) (now words) × (1 ≤ length (now hints)) ⌝ }
-    ensures { λ r. ⌜ Outcome (contract symbols «input_states» (layout .states) (now (counts .entry)) (now («input_rows» .entry)) (now («input_marks» .entry)) (now («output_table» .entry)) (now («output_marks» .entry)) (now (nodes .entry)) (now (rules .entry))) (λ (n : ℕ). Reached (contract symbols «input_states» (layout .states) (now (counts .entry)) (now («input_rows» .entry)) (now («input_marks» .entry)) (now («output_table» .entry)) (now («output_marks» .entry)) (now (nodes .entry)) (now (rules .entry))) limit (length (now (lefts .entry))) (r .before) n (now (rows .exit)) (now (words .exit))) limit (now (rows .exit)) (now (words .exit)) (r .ended) ⌝ }
+    requires { ⌜ Ready prepared (now table) × Covered (contractIn prepared (now table)) (now «left_masks») (now «right_masks») × (5 * prepared .symbols ≤ length (now «left_masks»)) × (5 * prepared .symbols ≤ length (now «right_masks»)) × (length (now rights) ≡ length (now lefts)) × Between (contractIn prepared (now table)) (round .limit) (round .before) (round .stood) (now rows) (now words) × (1 ≤ length (now hints)) ⌝ }
+    ensures { λ r. ⌜ Outcome (contractIn prepared (now (table .entry))) (λ (n : ℕ). Reached (contractIn prepared (now (table .entry))) (round .limit) (length (now (lefts .entry))) (r .before) n (now (rows .exit)) (now (words .exit))) (round .limit) (now (rows .exit)) (now (words .exit)) (r .ended) ⌝ }
 {
-    let mut old: usize = before;
-    let mut count: usize = stood;
+    let mut old: usize = round.before;
+    let mut count: usize = round.stood;
     let mut marked: usize = 0;
     while old < count {
         if lefts.len() < count {
@@ -514,30 +379,23 @@ pub fn all_rounds(
                 ended: Progress::Going(count),
             };
         }
-        mark_rows(words, left_masks, lefts, symbols, marked, count);
-        mark_rows(words, right_masks, rights, symbols, marked, count);
+        mark_rows(words, left_masks, lefts, prepared.symbols, marked, count);
+        mark_rows(words, right_masks, rights, prepared.symbols, marked, count);
+        let next = Round {
+            limit: round.limit,
+            before: old,
+            stood: count,
+        };
         let step = one_round(
-            symbols,
-            input_states,
-            layout,
-            offsets,
-            lists,
-            counts,
-            input_rows,
-            input_marks,
-            output_table,
-            output_marks,
-            nodes,
-            rules,
-            verdicts,
-            limit,
-            old,
-            count,
+            prepared,
+            table,
+            next,
             lefts,
             rights,
             hints,
             rows,
             words,
+            room,
         );
         let Progress::Going(total) = step else {
             return Rounds {

@@ -27,7 +27,7 @@ use Rattle.kind_words.specs.Called.{OffsetsIn}
 use Rattle.kind_words.specs.Kind.{ListsFor, listed, listLength, lanes-fit}
 use Rattle.classes.specs.Agreement.{EachCall, EachCallOfAll}
 use Rattle.classes.specs.Masks.{ShowsFacts}
-use Rattle.kind_lists.specs.Marks.{maskIn}
+use Rattle.classes.specs.Masks.{maskIn}
 use Rattle.masks.specs.Seen.{sideOf, statesSeen, state-seen, Sees}
 
 -- as many ones as a procedure of that many parameters has facts

@@ -23,7 +23,7 @@ use Rattle.model.proofs.Laws.Established.{Established}
 use Rattle.kind_words.specs.Chains.{NextFrom, or-first, or-next}
 use Rattle.classes.specs.Agreement.{EachCall, EachCallOfAll}
 use Rattle.classes.specs.Masks.{ShowsFacts}
-use Rattle.kind_lists.specs.Marks.{maskIn, Covered}
+use Rattle.classes.specs.Masks.{maskIn, Covered}
 
 -- the side that a flag names
 abbrev pub sideOf : Bool → Child

@@ -3,10 +3,11 @@
 ghost use mathlib.Core.Path.{_≡_};
 ghost use Prim.Native.Nat.{ℕ, _+_, _*_, _<_, _≤_};
 ghost use Rattle.foundation.specs.Tests.{choose};
+ghost use Rattle.prepared.specs.Parts.{contractIn, Ready};
 ghost use lib.ListN.{length, getD, replicate};
 ghost use Rattle.model.specs.Tables.{contract, inputRow, inputRowCount, nodeAt, nodeCount};
 ghost use Rattle.tables.specs.Tuples.{inputRowOf, nodeOf};
-ghost use Rattle.kind_lists.specs.Marks.{maskIn, Covered};
+ghost use Rattle.classes.specs.Masks.{maskIn, Covered};
 ghost use Rattle.masks.specs.Seen.{stateOn, stateBit, statesSeen, stored, Sees, AllSee};
 ghost use Rattle.masks.specs.Calls.{onesFor, withCall, CallFits, Shown, Placed, joined};
 ghost use Rattle.kind_words.specs.Kind.{listed, listLength, RowsChained};
@@ -17,6 +18,7 @@ use chains::rows_from;
 use lanes::place;
 use lanes::up;
 use lanes::wide;
+use prepared::Prepared;
 use tables::InputRow;
 use tables::Node;
 use tables::Symbol;
@@ -303,6 +305,38 @@ pub fn all_masks(
         offsets,
         lists,
         true,
+        right,
+    );
+}
+
+// The masks of a prepared contract.
+pub fn masks_of(prepared: Prepared, table: &[u16], left: &mut [u64; 80], right: &mut [u64; 80])
+    requires { ⌜ Ready prepared (now table) ⌝ }
+    ensures { λ _. ⌜ Covered (contractIn prepared (now (table .entry))) (now (left .exit)) (now (right .exit)) ⌝ }
+{
+    let layout = prepared.layout;
+    let offsets = prepared.offsets;
+    let counts = prepared.counts;
+    let rows = prepared.rows;
+    let inputs = prepared.inputs;
+    let outputs = prepared.table;
+    let marks = prepared.outputs;
+    let nodes = prepared.nodes;
+    let rules = prepared.rules;
+    all_masks(
+        prepared.symbols,
+        prepared.states,
+        layout.states,
+        &table[0..counts],
+        &table[counts..rows],
+        &table[rows..inputs],
+        &table[inputs..outputs],
+        &table[outputs..marks],
+        &table[marks..nodes],
+        &table[nodes..rules],
+        &offsets,
+        &table[rules..],
+        left,
         right,
     );
 }

@@ -1,6 +1,7 @@
 -- Both tests of the kind.
+use mathlib.Core.Path.{ap₂}
+use mathlib.Core.Bool.{_&&_}
 use borrow.Author.Needs.{needs}
-use Rattle.breaking.specs.Marked.{breaking-is}
 use Rattle.breaking.proofs.breaks.Statement.{statement}
 use Rattle.breaking.proofs.breaks.Tie as tie
 
@@ -11,8 +12,7 @@ has-wrong-output-requires : tie.Need-has-wrong-output-requires
 has-wrong-output-requires c κs = search needs
 
 returns : tie.Need-returns
-returns c = λ C known input output.
-    breaking-is (c .before .before .before .before .args .kind .now) C _ _ (c .before .of-input-type .ensures C known input) (c .has-wrong-output .ensures C known output)
+returns c = ap₂ _&&_ (c .before .of-input-type .ensures) (c .has-wrong-output .ensures)
 
 pub breaks-spec : {M : Type 1} → statement M
 breaks-spec = tie.close (tie.spec of-input-type-requires has-wrong-output-requires returns)

@@ -4,7 +4,7 @@ use mathlib.Core.List.{List}
 use Prim.Native.Nat.{ℕ}
 use native.Mathlib.Omega.{arith}
 use Rattle.model.specs.Tables.{Contract, contract}
-use Rattle.kind_lists.specs.Marks.{maskIn}
+use Rattle.classes.specs.Masks.{maskIn}
 use Rattle.masks.specs.Seen.{Sees, statesSeen, state-small}
 use Rattle.masks.specs.Calls.{joined, joined-sees}
 use borrow.Author.Needs.{needs}

@@ -1,0 +1,2 @@
+-- Lemmas of the proofs: words of marked states.
+pub mod MarkWords
