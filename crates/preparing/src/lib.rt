@@ -5,7 +5,7 @@ ghost use lib.ListN.{length};
 ghost use Rattle.model.specs.Tables.{contract};
 ghost use Rattle.model.proofs.Laws.Established.{Established};
 ghost use Rattle.classes.specs.Masks.{Covered};
-ghost use Rattle.preparing.specs.Packing.{Appended, Packed, Prepares, packedLength, preparedLength, Short};
+ghost use Rattle.preparing.specs.Packing.{Appended, Packed, LaidOut, Prepares, packedLength, preparedLength, Short};
 use breaking::verdicts_of;
 use layouts::layout_of;
 use layouts::offsets_of;
@@ -68,4 +68,113 @@ fn pack(
         nodes: f,
         rules: g,
     }
+}
+
+// How many numbers a prepared contract takes at most.
+pub fn table_length(
+    counts: &[u16],
+    input_rows: &[u16],
+    input_marks: &[u16],
+    output_table: &[u16],
+    output_marks: &[u16],
+    nodes: &[u16],
+    rules: &[u16],
+) -> usize
+    requires { ⌜ Short (now counts) (now «input_rows») (now «input_marks») (now «output_table») (now «output_marks») (now nodes) (now rules) ⌝ }
+    ensures { λ r. ⌜ r ≡ preparedLength (now (counts .entry)) (now («input_rows» .entry)) (now («input_marks» .entry)) (now («output_table» .entry)) (now («output_marks» .entry)) (now (nodes .entry)) (now (rules .entry)) ⌝ }
+{
+    counts.len()
+        + input_rows.len()
+        + input_marks.len()
+        + output_table.len()
+        + output_marks.len()
+        + nodes.len()
+        + rules.len()
+        + lists_length(input_rows, nodes, rules)
+}
+
+// Room for every prepared contract; in a function of its own, so that proofs see its length alone.
+pub fn most_table() -> [u16; 9344] {
+    [0u16; 9344]
+}
+
+// Lays out an admitted contract in a table: its tables, and behind them the lists by symbol.
+fn lay_out(
+    symbols: usize,
+    input_states: usize,
+    output_states: usize,
+    counts: &[u16],
+    input_rows: &[u16],
+    input_marks: &[u16],
+    output_table: &[u16],
+    output_marks: &[u16],
+    nodes: &[u16],
+    rules: &[u16],
+    table: &mut [u16],
+) -> Prepared
+    requires { ⌜ Established (contract symbols «input_states» «output_states» (now counts) (now «input_rows») (now «input_marks») (now «output_table») (now «output_marks») (now nodes) (now rules)) × (preparedLength (now counts) (now «input_rows») (now «input_marks») (now «output_table») (now «output_marks») (now nodes) (now rules) ≤ length (now table)) × (length (now table) < 65536) ⌝ }
+    ensures { λ r. ⌜ LaidOut (contract symbols «input_states» «output_states» (now (counts .entry)) (now («input_rows» .entry)) (now («input_marks» .entry)) (now («output_table» .entry)) (now («output_marks» .entry)) (now (nodes .entry)) (now (rules .entry))) r (now (table .exit)) ⌝ }
+{
+    let ends = pack(
+        counts,
+        input_rows,
+        input_marks,
+        output_table,
+        output_marks,
+        nodes,
+        rules,
+        table,
+    );
+    let lists = ends.rules;
+    fill_lists(counts, input_rows, nodes, rules, &mut table[lists..]);
+    Prepared {
+        symbols: symbols,
+        states: input_states,
+        layout: layout_of(output_states, counts),
+        offsets: offsets_of(output_states, counts),
+        verdicts: verdicts_of(input_marks, output_marks),
+        counts: ends.counts,
+        rows: ends.rows,
+        inputs: ends.inputs,
+        table: ends.table,
+        outputs: ends.outputs,
+        nodes: ends.nodes,
+        rules: ends.rules,
+    }
+}
+
+// Prepares an admitted contract, with room for its table and for the masks of what each symbol sees.
+pub fn prepare(
+    symbols: usize,
+    input_states: usize,
+    output_states: usize,
+    counts: &[u16],
+    input_rows: &[u16],
+    input_marks: &[u16],
+    output_table: &[u16],
+    output_marks: &[u16],
+    nodes: &[u16],
+    rules: &[u16],
+    table: &mut [u16],
+    left_masks: &mut [u64; 80],
+    right_masks: &mut [u64; 80],
+) -> Prepared
+    requires { ⌜ Established (contract symbols «input_states» «output_states» (now counts) (now «input_rows») (now «input_marks») (now «output_table») (now «output_marks») (now nodes) (now rules)) × (preparedLength (now counts) (now «input_rows») (now «input_marks») (now «output_table») (now «output_marks») (now nodes) (now rules) ≤ length (now table)) × (length (now table) < 65536) ⌝ }
+    ensures { λ r. ⌜ Prepares (contract symbols «input_states» «output_states» (now (counts .entry)) (now («input_rows» .entry)) (now («input_marks» .entry)) (now («output_table» .entry)) (now («output_marks» .entry)) (now (nodes .entry)) (now (rules .entry))) r (now (table .exit)) (now («left_masks» .exit)) (now («right_masks» .exit)) ⌝ }
+{
+    let prepared = lay_out(
+        symbols,
+        input_states,
+        output_states,
+        counts,
+        input_rows,
+        input_marks,
+        output_table,
+        output_marks,
+        nodes,
+        rules,
+        table,
+    );
+    masks_of(prepared, table, left_masks, right_masks);
+    prepared
 }
