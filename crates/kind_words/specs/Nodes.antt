@@ -10,7 +10,7 @@ use borrow.Author.Tests.{eq-eqb, ne-eqb}
 use lib.Dec.{eqb}
 use lib.Pow.{pow-pos}
 use lib.ListN.{length, getD, take}
-use lib.Seq.{length-take-le}
+use lib.Seq.{length-take-le, take-all}
 use lib.Bits.{bitAnd}
 use Rattle.foundation.specs.Words.{bit}
 use Rattle.foundation.specs.Tests.{_and_, same, below, some-cong}
@@ -33,6 +33,17 @@ outputWord o l ones table name a b =
 -- the word of a call of a procedure of that count, from its facts and the words a and b of the first two arguments
 abbrev pub callWord : (o l ones starts count called a b : ℕ) → ℕ
 callWord o l ones starts count called a b = callLanes o l starts called ones 0 (take count (a ∷ b ∷ []))
+
+-- where the code goes by the count, its cases are instances
+module _ (o l ones starts count called a b r : ℕ) where
+  pub call-none : count ≡ 0 → r ≡ callLanes o l starts called ones 0 [] → r ≡ callWord o l ones starts count called a b
+  call-none e h = rw e h
+
+  pub call-first : count ≡ 1 → r ≡ callLanes o l starts called ones 0 (a ∷ []) → r ≡ callWord o l ones starts count called a b
+  call-first e h = rw e h
+
+  pub call-both : 2 ≤ count → r ≡ callLanes o l starts called ones 0 (a ∷ b ∷ []) → r ≡ callWord o l ones starts count called a b
+  call-both h e = rw (take-all count (a ∷ b ∷ []) h) e
 
 -- a node's word as the code computes it, by its tag
 unfoldable pub nodeWord : (o l ones starts : ℕ) (table : List ℕ) (tag name count called first second a b : ℕ) → ℕ
