@@ -1,5 +1,5 @@
 -- The facts of a called procedure, read from a child's kind as a word of lanes.
-use mathlib.Core.Path.{_≡_, refl, ap, sym, _∙_}
+use mathlib.Core.Path.{_≡_, refl, ap, subst, sym, _∙_}
 use mathlib.Core.List.{List, [], _∷_}
 use mathlib.Core.Bool.{Bool, cond}
 use Prim.Native.Nat.{ℕ, _+_, _*_, _^_, _<_, _≤_}
@@ -15,6 +15,7 @@ use Rattle.model.specs.Tables.{Contract, countOf}
 use Rattle.model.specs.Expressions.{Child, left, right, childOf}
 use Rattle.model.specs.Facts.{onSide, offset, code, factNumber}
 use Rattle.model.specs.Kinds.{factsIn, bitOfFact}
+use Rattle.model.proofs.Laws.Facts.{code-lt}
 use Rattle.kind_words.specs.Blocks.{factsFrom, widened, facts-from-bit, widened-bit, Words}
 use Rattle.kind_words.specs.Nodes.{CalledIs}
 
@@ -63,22 +64,13 @@ module _ (C : Contract) (l r : List ℕ) (K : ℕ) where
 
   procedure-is : (c : Child) (p : ℕ) → Words (onSide l r c) → 0 < O → O ^ countOf counts p ≤ O ^ K → O * O ^ countOf counts p ≤ 64
       → CalledIs (C .transformation) (C .output) called K c p (widened O (O ^ K) (O ^ countOf counts p) (factsFrom (onSide l r c) (offset O counts p)))
-  unfolding factNumber code bitOfFact
+  unfolding factNumber bitOfFact
   procedure-is c p words some narrow fit =
       record {
-        none = λ e q hq. at q 0 hq (rw (e, pow-zero) (omega arith)) ∙ sym (on-side c p q []);
-        one = λ e q x hq hx. at q x hq (rw (e, pow-one O) hx) ∙ sym (on-side c p q (x ∷ []) ∙ ap (bitOfFact C (onSide l r c)) (one-code q x));
-        two = λ e q x y hq hx hy.
-            at q (x * O + y) hq (rw (e, pow-two O) (digits-lt hx hy)) ∙ sym (on-side c p q (x ∷ y ∷ []) ∙ ap (bitOfFact C (onSide l r c)) (two-code q x y));
+        fact = λ q hq qs arity below.
+            at q (code O qs) hq (subst (λ (k : ℕ). code O qs < O ^ k) arity (code-lt O qs below)) ∙ sym (on-side c p q qs);
       }
     where
-      one-code : (q x : ℕ) → offset O counts p + (q * O ^ countOf counts p + (x * O ^ 0 + 0)) ≡ offset O counts p + (q * O ^ countOf counts p + x)
-      one-code q x = rw pow-zero (omega arith)
-
-      two-code : (q x y : ℕ) → offset O counts p + (q * O ^ countOf counts p + (x * O ^ 1 + (y * O ^ 0 + 0)))
-          ≡ offset O counts p + (q * O ^ countOf counts p + (x * O + y))
-      two-code q x y = rw (pow-one O, pow-zero) (omega arith)
-
       at : (q c′ : ℕ) → q < O → c′ < O ^ countOf counts p
           → bit (widened O (O ^ K) (O ^ countOf counts p) (factsFrom (onSide l r c) (offset O counts p))) (q * O ^ K + c′)
           ≡ bitOfFact C (onSide l r c) (offset O counts p + (q * O ^ countOf counts p + c′))

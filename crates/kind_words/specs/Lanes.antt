@@ -1,7 +1,7 @@
 -- Words of lanes: a word holds for each output state q a lane of L bits, one for each assignment of parameter states.
 -- Bit q * L + c says that state q is given at assignment c. A symbol and a call are computed for all assignments at once.
 use mathlib.Core.Path.{_≡_, refl, ap, sym, _∙_}
-use mathlib.Core.List.{List}
+use mathlib.Core.List.{List, [], _∷_}
 use mathlib.Core.Bool.{Bool, true, false}
 use Prim.Native.Nat.{ℕ, suc, _+_, _*_, _-_, _/_, _^_, _<_, _≤_}
 use native.Mathlib.Nat.{add-comm, mul-le-mul-right}
@@ -91,13 +91,15 @@ module _ (O L : ℕ) where
   lane-bit a x c h = bit-mask (a / 2 ^ (x * L)) L c h ∙ bit-shr a (x * L) c
 
   -- a row of choices: lanes of b at y, for each y, where ax is
-  pub row-lanes : (ax b n : ℕ) (g : ℕ → ℕ → ℕ) (h : ℕ → ℕ → Bool) → ax < 2 ^ L
-      → ((y m : ℕ) → y < n → m < 2 ^ L → Lanes (g y m) (λ q c. bit m c and h y q))
-      → Lanes (orTo (λ y. g y (bitAnd ax (b / 2 ^ (y * L)))) n) (λ q c. bit ax c and someBelow n (λ y. bit b (y * L + c) and h y q))
+  pub row-lanes : (ax b n : ℕ) (g : ℕ → ℕ → ℕ) (h : ℕ → ℕ → ℕ → Bool) → ax < 2 ^ L
+      → ((y m : ℕ) → y < n → m < 2 ^ L → Lanes (g y m) (λ q c. bit m c and h y q c))
+      → Lanes (orTo (λ y. g y (bitAnd ax (b / 2 ^ (y * L)))) n) (λ q c. bit ax c and someBelow n (λ y. bit b (y * L + c) and h y q c))
   row-lanes ax b n g h ha k =
       lanes-eq
-      (lanes-or (λ y. g y (bitAnd ax (b / 2 ^ (y * L)))) (λ y q c. bit (bitAnd ax (b / 2 ^ (y * L))) c and h y q) n (λ y l. k y (bitAnd ax (b / 2 ^ (y * L))) l (cut-lt ax b y ha)))
-      (λ q c hq hc. some-cong n _ _ (λ y l. ap (λ (t : Bool). t and h y q) (cut-bit ax b y c) ∙ and-over (bit ax c) (bit b (y * L + c)) (h y q)) ∙ some-and (bit ax c) n (λ y. bit b (y * L + c) and h y q))
+      (lanes-or (λ y. g y (bitAnd ax (b / 2 ^ (y * L)))) (λ y q c. bit (bitAnd ax (b / 2 ^ (y * L))) c and h y q c) n (λ y l. k y (bitAnd ax (b / 2 ^ (y * L))) l (cut-lt ax b y ha)))
+      (λ q c hq hc.
+      some-cong n _ _ (λ y l. ap (λ (t : Bool). t and h y q c) (cut-bit ax b y c) ∙ and-over (bit ax c) (bit b (y * L + c)) (h y q c))
+      ∙ some-and (bit ax c) n (λ y. bit b (y * L + c) and h y q c))
 
   -- choices of the lanes of a
   pub all-lanes : (a n : ℕ) (g : ℕ → ℕ → ℕ) (h : ℕ → ℕ → ℕ → Bool)
@@ -120,28 +122,30 @@ module _ (O L : ℕ) where
       → Lanes (symbolWord a b out O) (λ q c. someBelow O (λ x. bit a (x * L + c) and someBelow O (λ y. bit b (y * L + c) and same q (out x y))))
   symbol-lanes a b out h =
       all-lanes a O (λ x m. symbolRow m b (out x) O) (λ x q c. someBelow O (λ y. bit b (y * L + c) and same q (out x y)))
-      (λ x m hx hm. row-lanes m b O (λ y t. t * 2 ^ (out x y * L)) (λ y q. same q (out x y)) hm (λ y t hy ht. lane-at t (out x y) ht (h x y hx hy)))
+      (λ x m hx hm. row-lanes m b O (λ y t. t * 2 ^ (out x y * L)) (λ y q c. same q (out x y)) hm (λ y t hy ht. lane-at t (out x y) ht (h x y hx hy)))
 
-  -- a call of a procedure of two, one, no parameters: bit q * L + code of e is its fact
-  abbrev pub callRow : ℕ → ℕ → ℕ → ℕ → ℕ → ℕ → ℕ
-  callRow qs e ax b d n = orTo (λ y. bitAnd ax (b / 2 ^ (y * L)) * bitAnd (e / 2 ^ (d + y)) qs) n
+  -- A call over the words of its arguments, however many: for each choice of their states the assignments at which they have
+  -- them, put at each result state whose fact is set. m has the assignments at which the states chosen so far are had, d is the
+  -- code of those states; bit q * L + code of e is the fact of result state q.
+  abbrev pub callLanes : (qs e m d : ℕ) → List ℕ → ℕ
+  callLanes qs e m d [] = m * bitAnd (e / 2 ^ d) qs
+  callLanes qs e m d (a ∷ rest) = orTo (λ x. callLanes qs e (bitAnd m (a / 2 ^ (x * L))) (d * O + x) rest) O
 
-  abbrev pub callTwo : ℕ → ℕ → ℕ → ℕ → ℕ → ℕ
-  callTwo qs e a b n = orTo (λ x. callRow qs e (bitAnd (a / 2 ^ (x * L)) (2 ^ L - 1)) b (x * O) O) n
+  -- the same for the first n states of the next argument
+  abbrev pub callStates : (qs e m d a : ℕ) → List ℕ → ℕ → ℕ
+  callStates qs e m d a rest n = orTo (λ x. callLanes qs e (bitAnd m (a / 2 ^ (x * L))) (d * O + x) rest) n
 
-  abbrev pub callOne : ℕ → ℕ → ℕ → ℕ → ℕ
-  callOne qs e a n = orTo (λ x. bitAnd (a / 2 ^ (x * L)) (2 ^ L - 1) * bitAnd (e / 2 ^ x) qs) n
+  -- some choice of argument states, had at assignment c, has a code that passes the test
+  abbrev pub someCode : List ℕ → (c d : ℕ) → (ℕ → Bool) → Bool
+  someCode [] c d test = test d
+  someCode (a ∷ rest) c d test = someBelow O (λ x. bit a (x * L + c) and someCode rest c (d * O + x) test)
 
-  module _ (qs : ℕ) (st : Starts qs) (h0 : 0 < L) where
-    pub two-lanes : (e a b : ℕ)
-        → Lanes (callTwo qs e a b O) (λ q c. someBelow O (λ x. bit a (x * L + c) and someBelow O (λ y. bit b (y * L + c) and bit e (q * L + (x * O + y)))))
-    two-lanes e a b =
-        all-lanes a O (λ x m. callRow qs e m b (x * O) O) (λ x q c. someBelow O (λ y. bit b (y * L + c) and bit e (q * L + (x * O + y))))
-        (λ x m hx hm. row-lanes m b O (λ y t. t * bitAnd (e / 2 ^ (x * O + y)) qs) (λ y q. bit e (q * L + (x * O + y))) hm (λ y t hy ht. lane-times t e qs (x * O + y) ht st h0))
-
-    pub one-lanes : (e a : ℕ) → Lanes (callOne qs e a O) (λ q c. someBelow O (λ x. bit a (x * L + c) and bit e (q * L + x)))
-    one-lanes e a =
-        all-lanes a O (λ x m. m * bitAnd (e / 2 ^ x) qs) (λ x q c. bit e (q * L + x)) (λ x m hx hm. lane-times m e qs x hm st h0)
+  pub call-lanes : (qs : ℕ) → Starts qs → 0 < L → (e m d : ℕ) (rest : List ℕ) → m < 2 ^ L
+      → Lanes (callLanes qs e m d rest) (λ q c. bit m c and someCode rest c d (λ i. bit e (q * L + i)))
+  call-lanes qs st some e m d [] h = lane-times m e qs d h st some
+  call-lanes qs st some e m d (a ∷ rest) h =
+      row-lanes m a O (λ x t. callLanes qs e t (d * O + x) rest) (λ x q c. someCode rest c (d * O + x) (λ i. bit e (q * L + i))) h
+      (λ x t hx ht. call-lanes qs st some e t (d * O + x) rest ht)
 
 -- o lanes of l bits fit into a word
 pub record Sized (o l : ℕ) : Type 0 where

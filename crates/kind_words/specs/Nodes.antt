@@ -1,37 +1,49 @@
 -- The word of a node, all assignments of parameter states at once, from the words of the nodes that it refers to.
-use mathlib.Core.Path.{_≡_, ap, ap₂, sym, _∙_}
+use mathlib.Core.Path.{_≡_, refl, ap, ap₂, sym, _∙_}
 use mathlib.Core.List.{List, [], _∷_}
 use mathlib.Core.Bool.{Bool, cond}
 use Prim.Native.Nat.{ℕ, zero, suc, _+_, _*_, _-_, _/_, _^_, _<_, _≤_}
+use native.Mathlib.Nat.{pow-zero, pow-suc}
 use native.Mathlib.Omega.{arith}
 use native.Mathlib.Decide.{ℕ-discrete}
 use borrow.Author.Tests.{eq-eqb, ne-eqb}
 use lib.Dec.{eqb}
 use lib.Pow.{pow-pos}
-use lib.ListN.{length, getD}
+use lib.ListN.{length, getD, take}
+use lib.Seq.{length-take-le, take-all}
 use lib.Bits.{bitAnd}
 use Rattle.foundation.specs.Words.{bit}
 use Rattle.foundation.specs.Tests.{_and_, same, below, some-cong}
 use Rattle.foundation.specs.TestLaws.{true-and}
 use Rattle.foundation.specs.Bits.{bit-ones}
 use Rattle.model.specs.Tables.{Transformation, OutputType, Node, nodeAt, countOf, emptyState, nextState}
-use Rattle.model.specs.Expressions.{Child, Expression, childOf, argumentsOf, expression, greatestParameter, greatestOfAll}
-use Rattle.model.specs.Facts.{FactSet, yields, digits}
+use Rattle.model.specs.Expressions.{Child, Expression, Arguments, none, argument, childOf, argumentsOf, expression, greatestParameter, greatestOfAll}
+use Rattle.model.specs.Facts.{FactSet, yields, yieldsAll, digits, code}
 use Rattle.model.specs.Admission.{references}
+use Rattle.model.proofs.Laws.Facts.{AllBelow}
 use Rattle.model.proofs.Laws.Expressions.{expression-parameter, expression-nothing, expression-symbol, expression-call, SmallerArguments}
 use Rattle.model.proofs.Laws.Established.{GoodNode, good-parameter, good-nothing, good-symbol, good-call}
-use Rattle.kind_words.specs.Lanes.{Lanes, lanes-eq, Starts, symbolWord, symbol-lanes, callTwo, callOne, two-lanes, one-lanes, lane-times, lane-at}
+use Rattle.kind_words.specs.Lanes.{Lanes, lanes-eq, Starts, symbolWord, symbol-lanes, callLanes, someCode, call-lanes, lane-at}
 
 -- the word of an output symbol over the words a and b of its two nodes
 abbrev pub outputWord : (o l ones : ℕ) (table : List ℕ) (name a b : ℕ) → ℕ
 outputWord o l ones table name a b =
     cond (eqb name 0) (ones * 2 ^ (getD table 0 0 * l)) (symbolWord o l a b (λ x y. getD table (1 + (name - 1) * o * o + x * o + y) 0) o)
 
--- the word of a call of a procedure of that count, from its facts and the words a and b of the arguments
+-- the word of a call of a procedure of that count, from its facts and the words a and b of the first two arguments
 abbrev pub callWord : (o l ones starts count called a b : ℕ) → ℕ
-callWord o l ones starts count called a b =
-    cond (eqb count 0) (ones * bitAnd (called / 2 ^ 0) starts)
-    (cond (eqb count 1) (callOne o l starts called a o) (callTwo o l starts called a b o))
+callWord o l ones starts count called a b = callLanes o l starts called ones 0 (take count (a ∷ b ∷ []))
+
+-- where the code goes by the count, its cases are instances
+module _ (o l ones starts count called a b r : ℕ) where
+  pub call-none : count ≡ 0 → r ≡ callLanes o l starts called ones 0 [] → r ≡ callWord o l ones starts count called a b
+  call-none e h = rw e h
+
+  pub call-first : count ≡ 1 → r ≡ callLanes o l starts called ones 0 (a ∷ []) → r ≡ callWord o l ones starts count called a b
+  call-first e h = rw e h
+
+  pub call-both : 2 ≤ count → r ≡ callLanes o l starts called ones 0 (a ∷ b ∷ []) → r ≡ callWord o l ones starts count called a b
+  call-both h e = rw (take-all count (a ∷ b ∷ []) h) e
 
 -- a node's word as the code computes it, by its tag
 unfoldable pub nodeWord : (o l ones starts : ℕ) (table : List ℕ) (tag name count called first second a b : ℕ) → ℕ
@@ -85,9 +97,32 @@ module _ (T : Transformation) (Y : OutputType) (facts : Child → FactSet) (K : 
 
   -- w has the facts of procedure p on a child: bit q * L + code of the parameter states
   pub record CalledIs (c : Child) (p w : ℕ) : Type 0 where
-    pub none : countOf (T .counts) p ≡ 0 → (q : ℕ) → q < O → bit w (q * L + 0) ≡ facts c p q []
-    pub one : countOf (T .counts) p ≡ 1 → (q x : ℕ) → q < O → x < O → bit w (q * L + x) ≡ facts c p q (x ∷ [])
-    pub two : countOf (T .counts) p ≡ 2 → (q x y : ℕ) → q < O → x < O → y < O → bit w (q * L + (x * O + y)) ≡ facts c p q (x ∷ y ∷ [])
+    pub fact : (q : ℕ) → q < O → (qs : List ℕ) → length qs ≡ countOf (T .counts) p → AllBelow O qs → bit w (q * L + code O qs) ≡ facts c p q qs
+
+  -- words of argument expressions
+  abbrev pub ArgumentsAre : Arguments → List ℕ → Type 0
+  ArgumentsAre none [] = Unit {0}
+  ArgumentsAre none (a ∷ rest) = ⊥
+  ArgumentsAre (argument e es) [] = ⊥
+  ArgumentsAre (argument e es) (a ∷ rest) = Lanes O L a (λ q c. yields T Y facts e (digits O K c) q) × ArgumentsAre es rest
+
+  -- a choice of argument states by their words is one of the expressions' states, for any number of arguments
+  some-code : (es : Arguments) (rest : List ℕ) → ArgumentsAre es rest → (c : ℕ) → c < L → (d : ℕ) (has : ℕ → Bool) (test : List ℕ → Bool)
+      → ((qs : List ℕ) → length qs ≡ length rest → AllBelow O qs → has (d * O ^ length qs + code O qs) ≡ test qs)
+      → someCode O L rest c d has ≡ yieldsAll T Y facts es (digits O K c) test
+  unfolding yields code
+  some-code none [] are c hc d has test h = ap has (rw pow-zero (omega arith)) ∙ h [] refl tt
+  some-code none (a ∷ rest) are c hc d has test h = absurd are
+  some-code (argument e es) [] are c hc d has test h = absurd are
+  some-code (argument e es) (a ∷ rest) are c hc d has test h =
+      some-cong O _ _
+      (λ x hx.
+      ap₂ _and_ (are .0 .bits x c hx hc)
+      (some-code es rest (are .1) c hc (d * O + x) has (λ qs. test (x ∷ qs))
+      (λ qs l b. ap has (next d x (O ^ length qs) (code O qs)) ∙ ap (λ (p : ℕ). has (d * p + (x * O ^ length qs + code O qs))) (sym (pow-suc O (length qs))) ∙ h (x ∷ qs) (ap suc l) (hx, b))))
+    where
+      next : (d x p k : ℕ) → (d * O + x) * p + k ≡ d * (p * O) + (x * p + k)
+      next d x p k = omega arith
 
   -- a and b are the words of the nodes that node n refers to
   pub record ReferredIs (n a b : ℕ) : Type 0 where
@@ -128,55 +163,41 @@ module _ (T : Transformation) (Y : OutputType) (facts : Child → FactSet) (K : 
         (some-cong O _ _ (λ y hy. ap₂ _and_ (ib .bits y c hy hc) (ap (λ (v : ℕ). same q v) (is x y)))))
         ∙ sym (rw e))
 
-    -- the greatest parameter of the arguments of a call
-    arguments-greatest : (k : ℕ) (e f : Expression) → greatestOfAll (argumentsOf k e f) ≤ K
-        → (1 ≤ k → greatestParameter e ≤ K) × (2 ≤ k → greatestParameter f ≤ K)
-    unfolding greatestParameter
-    arguments-greatest zero e f h = (λ l. absurd (omega arith), λ l. absurd (omega arith))
-    arguments-greatest (suc zero) e f h = (λ l. omega arith, λ l. absurd (omega arith))
-    arguments-greatest (suc (suc k)) e f h = (λ l. omega arith, λ l. omega arith)
-
-    module _ (starts w : ℕ) (firsts : Starts O L starts) (some : 0 < L) (t : node n .tag ≡ 2) (smaller : SmallerArguments (T .counts) (T .nodes) n)
-        (called : CalledIs (childOf (node n .child)) (node n .name) w) where
+    module _ (starts w ones : ℕ) (lane : ones ≡ 2 ^ L - 1) (firsts : Starts O L starts) (some : 0 < L) (t : node n .tag ≡ 2)
+        (smaller : SmallerArguments (T .counts) (T .nodes) n) (called : CalledIs (childOf (node n .child)) (node n .name) w) where
       abbrev count : ℕ
       count = countOf (T .counts) (node n .name)
 
       call-expression : expressionAt n ≡ Expression.call (node n .name) (childOf (node n .child)) (argumentsOf count (expressionAt (node n .first)) (expressionAt (node n .second)))
       call-expression = expression-call (T .counts) (T .nodes) n t smaller
 
-      greatest : greatestParameter (expressionAt n) ≤ K
-          → (1 ≤ count → greatestParameter (expressionAt (node n .first)) ≤ K) × (2 ≤ count → greatestParameter (expressionAt (node n .second)) ≤ K)
-      unfolding greatestParameter
-      greatest g = arguments-greatest count _ _ (rw call-expression at g)
-
-      two-node : count ≡ 2 → NodeIs n (callTwo O L starts w a b O)
-      unfolding nodeFact yields
-      two-node k g =
+      -- the words of the arguments that there are
+      arguments-are : (k : ℕ) → k ≡ count → k ≤ 2 → greatestOfAll (argumentsOf k (expressionAt (node n .first)) (expressionAt (node n .second))) ≤ K
+          → ArgumentsAre (argumentsOf k (expressionAt (node n .first)) (expressionAt (node n .second))) (take k (a ∷ b ∷ []))
+      unfolding nodeFact greatestParameter
+      arguments-are zero e h g = tt
+      arguments-are (suc zero) e h g =
           let r = call-references T n t in
-          let ia = referred .first (omega arith) (greatest g .0 (omega arith)) in
-          let ib = referred .second (omega arith) (greatest g .1 (omega arith)) in
-          lanes-eq O L (two-lanes O L starts firsts some w a b)
-          (λ q c hq hc.
-          some-cong O _ _
-          (λ x hx.
-          ap₂ _and_ (ia .bits x c hx hc) (some-cong O _ _ (λ y hy. ap₂ _and_ (ib .bits y c hy hc) (called .two k q x y hq hx hy))))
-          ∙ sym (rw (call-expression, k)))
-
-      one-node : count ≡ 1 → NodeIs n (callOne O L starts w a O)
-      unfolding nodeFact yields
-      one-node k g =
+          (referred .first (omega arith) (omega arith), tt)
+      arguments-are (suc (suc zero)) e h g =
           let r = call-references T n t in
-          let ia = referred .first (omega arith) (greatest g .0 (omega arith)) in
-          lanes-eq O L (one-lanes O L starts firsts some w a)
-          (λ q c hq hc.
-          some-cong O _ _ (λ x hx. ap₂ _and_ (ia .bits x c hx hc) (called .one k q x hq hx)) ∙ sym (rw (call-expression, k)))
+          (referred .first (omega arith) (omega arith), (referred .second (omega arith) (omega arith), tt))
+      arguments-are (suc (suc (suc k))) e h g = absurd (omega arith)
 
-      none-node : (ones : ℕ) → ones ≡ 2 ^ L - 1 → count ≡ 0 → NodeIs n (ones * bitAnd (w / 2 ^ 0) starts)
-      unfolding nodeFact yields
-      none-node ones e k g =
-          lanes-eq O L (lane-times O L ones w starts 0 (omega (arith, pow-pos L)) firsts some)
+      no-code : (p k : ℕ) → 0 * p + k ≡ k
+      no-code p k = omega arith
+
+      call-node : count ≤ 2 → NodeIs n (callWord O L ones starts count w a b)
+      unfolding nodeFact yields greatestParameter
+      call-node few g =
+          let are = arguments-are count refl few (rw call-expression at g) in
+          let long : length (take count (a ∷ b ∷ [])) ≡ count = length-take-le count (a ∷ b ∷ []) few in
+          lanes-eq O L (call-lanes O L starts firsts some w ones 0 (take count (a ∷ b ∷ [])) (omega (arith, pow-pos L)))
           (λ q c hq hc.
-          true-and (bit ones c) _ (ap (λ (x : ℕ). bit x c) e ∙ bit-ones L c hc) ∙ called .none k q hq ∙ sym (rw (call-expression, k)))
+          true-and (bit ones c) _ (ap (λ (x : ℕ). bit x c) lane ∙ bit-ones L c hc)
+          ∙ some-code (argumentsOf count (expressionAt (node n .first)) (expressionAt (node n .second))) (take count (a ∷ b ∷ [])) are c hc 0 (λ i. bit w (q * L + i)) (λ vs. facts (childOf (node n .child)) (node n .name) q vs)
+          (λ qs l b. ap (λ (i : ℕ). bit w (q * L + i)) (no-code (O ^ length qs) (code O qs)) ∙ called .fact q hq qs (l ∙ long) b)
+          ∙ sym (rw call-expression))
 
   -- the code's word is the node's
   pub node-word-is : (S n w ones starts first second a b : ℕ) → LanesAre O K ones starts first second → 0 < L
@@ -198,29 +219,6 @@ module _ (T : Transformation) (Y : OutputType) (facts : Child → FactSet) (K : 
       by-parameter t h1 h2 (no nz) =
           rw (eq-eqb (node n .tag) 0 t, ne-eqb (node n .name) 1 nz) (parameter-node n 1 second t (omega arith) (lanes .secondIs))
 
-      by-count : node n .tag ≡ 2 → SmallerArguments (T .counts) (T .nodes) n → Dec (countOf (T .counts) (node n .name) ≡ 0)
-          → Dec (countOf (T .counts) (node n .name) ≡ 1)
-          → NodeIs n W
-      by-count t s (yes z) d =
-          rw (ne-eqb (node n .tag) 0 (λ e. omega arith), ne-eqb (node n .tag) 1 (λ e. omega arith), eq-eqb (countOf (T .counts) (node n .name)) 0 z)
-          (none-node n a b referred starts w (lanes .firsts) some t s (called t) ones (lanes .lane) z)
-      by-count t s (no nz) (yes z) =
-          rw (
-            ne-eqb (node n .tag) 0 (λ e. omega arith),
-            ne-eqb (node n .tag) 1 (λ e. omega arith),
-            ne-eqb (countOf (T .counts) (node n .name)) 0 nz,
-            eq-eqb (countOf (T .counts) (node n .name)) 1 z,
-          )
-          (one-node n a b referred starts w (lanes .firsts) some t s (called t) z)
-      by-count t s (no nz) (no n1) =
-          rw (
-            ne-eqb (node n .tag) 0 (λ e. omega arith),
-            ne-eqb (node n .tag) 1 (λ e. omega arith),
-            ne-eqb (countOf (T .counts) (node n .name)) 0 nz,
-            ne-eqb (countOf (T .counts) (node n .name)) 1 n1,
-          )
-          (two-node n a b referred starts w (lanes .firsts) some t s (called t) (omega (arith, few (node n .name))))
-
       by-tag : GoodNode S (T .counts) n (node n) → NodeIs n W
       by-tag (good-parameter t h1 h2) = by-parameter t h1 h2 (ℕ-discrete (node n .name) 1)
       by-tag (good-nothing t z) =
@@ -232,5 +230,5 @@ module _ (T : Transformation) (Y : OutputType) (facts : Child → FactSet) (K : 
           rw (ne-eqb (node n .tag) 0 (λ e. omega arith), eq-eqb (node n .tag) 1 t, ne-eqb (node n .name) 0 (λ e. omega arith))
           (symbol-node n a b referred _ t h hf hk (λ x y hx hy. entry _) is)
       by-tag (good-call t hn hc hf hs) =
-          by-count t (record { first = hf; second = hs }) (ℕ-discrete (countOf (T .counts) (node n .name)) 0)
-          (ℕ-discrete (countOf (T .counts) (node n .name)) 1)
+          rw (ne-eqb (node n .tag) 0 (λ e. omega arith), ne-eqb (node n .tag) 1 (λ e. omega arith))
+          (call-node n a b referred starts w ones (lanes .lane) (lanes .firsts) some t (record { first = hf; second = hs }) (called t) (few (node n .name)))

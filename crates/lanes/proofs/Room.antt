@@ -88,3 +88,7 @@ power-small o c h1 h4 hc =
     let a : o ^ c ≤ o ^ 2 = pow-le-pow-right h1 hc in
     let b : o ^ 2 ≤ 4 ^ 2 = pow-le-pow-left h4 2 in
     omega arith
+
+-- the code of one state
+pub no-code : (o x : ℕ) → 0 * o + x ≡ x
+no-code o x = omega arith

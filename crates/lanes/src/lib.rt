@@ -3,10 +3,11 @@
 // A word holds a lane of `width` bits for each output state, one bit for each assignment: bit q * width + c says that
 // state q is given at assignment c. `ones` is a lane of ones at state 0, `starts` the first bit of each lane.
 ghost use mathlib.Core.Path.{_≡_};
+ghost use mathlib.Core.List.{[], _∷_};
 ghost use Prim.Native.Nat.{ℕ, _+_, _*_, _-_, _/_, _^_, _<_, _≤_};
 ghost use lib.ListN.{getD};
 ghost use lib.Bits.{bitAnd};
-ghost use Rattle.kind_words.specs.Lanes.{Sized, Laid, StatesAt, symbolRow, symbolWord, callRow, callTwo, callOne};
+ghost use Rattle.kind_words.specs.Lanes.{Sized, Laid, StatesAt, symbolRow, symbolWord, callLanes};
 
 // How the words of a contract are laid out: its output states, the bits in a lane, a lane of ones at state 0, the first bit
 // of each lane, and the words of the first and the second parameter.
@@ -107,34 +108,35 @@ pub fn symbol_word(
     word
 }
 
-// A call of a procedure of two parameters over one lane of its first argument; its facts stand from `start` on.
+// A call over the states of its last argument. `lane` has the assignments at which the states chosen for the arguments before
+// are had, `chosen` is the code of those states: bit q * width + chosen * states + y of `facts` is the fact of state q.
 pub fn call_row(
     states: usize,
     width: u64,
     ones: u64,
     starts: u64,
     facts: u64,
-    start: u64,
-    first: u64,
-    second: u64,
+    chosen: u64,
+    lane: u64,
+    word: u64,
 ) -> u64
-    requires { ⌜ Laid states width ones starts × (start + states ≤ 64) × (first < 2 ^ width) ⌝ }
-    ensures { λ r. ⌜ r ≡ callRow states width starts facts first second start states ⌝ }
+    requires { ⌜ Laid states width ones starts × (chosen * states + states ≤ 64) × (lane < 2 ^ width) ⌝ }
+    ensures { λ r. ⌜ r ≡ callLanes states width starts facts lane chosen (word ∷ []) ⌝ }
 {
-    let mut word: u64 = 0;
+    let mut calls: u64 = 0;
     let mut place: u64 = 0;
-    let mut code: u64 = start;
+    let mut code: u64 = chosen * (states as u64);
     let mut y: usize = 0;
     while y < states {
-        word = word | spread(first & (second >> place), facts, code, starts);
+        calls = calls | spread(lane & (word >> place), facts, code, starts);
         place += width;
         code += 1;
         y += 1;
     }
-    word
+    calls
 }
 
-// A call of a procedure of two parameters: bit q * width + x * states + y of `facts` is its fact (q, x, y).
+// A call of a procedure of two parameters, over the states of both arguments.
 pub fn call_two(
     states: usize,
     width: u64,
@@ -145,45 +147,18 @@ pub fn call_two(
     second: u64,
 ) -> u64
     requires { ⌜ Laid states width ones starts × (states * states ≤ 64) ⌝ }
-    ensures { λ r. ⌜ r ≡ callTwo states width starts facts first second states ⌝ }
+    ensures { λ r. ⌜ r ≡ callLanes states width starts facts ones 0 (first ∷ second ∷ []) ⌝ }
 {
-    let mut word: u64 = 0;
+    let mut calls: u64 = 0;
     let mut place: u64 = 0;
-    let mut code: u64 = 0;
+    let mut chosen: u64 = 0;
     let mut x: usize = 0;
     while x < states {
-        word = word
-            | call_row(
-                states,
-                width,
-                ones,
-                starts,
-                facts,
-                code,
-                lane(first, place, ones),
-                second,
-            );
+        let lane = ones & (first >> place);
+        calls = calls | call_row(states, width, ones, starts, facts, chosen, lane, second);
         place += width;
-        code += states as u64;
+        chosen += 1;
         x += 1;
     }
-    word
-}
-
-// A call of a procedure of one parameter: bit q * width + x of `facts` is its fact (q, x).
-pub fn call_one(states: usize, width: u64, ones: u64, starts: u64, facts: u64, first: u64) -> u64
-    requires { ⌜ Laid states width ones starts × (states ≤ 64) ⌝ }
-    ensures { λ r. ⌜ r ≡ callOne states width starts facts first states ⌝ }
-{
-    let mut word: u64 = 0;
-    let mut place: u64 = 0;
-    let mut code: u64 = 0;
-    let mut x: usize = 0;
-    while x < states {
-        word = word | spread(lane(first, place, ones), facts, code, starts);
-        place += width;
-        code += 1;
-        x += 1;
-    }
-    word
+    calls
 }

@@ -17,7 +17,7 @@ use blocks::facts_from;
 use blocks::lane_of_ones;
 use blocks::widen;
 use lanes::Layout;
-use lanes::call_one;
+use lanes::call_row;
 use lanes::call_two;
 use lanes::place;
 use lanes::spread;
@@ -71,12 +71,14 @@ fn call_word(layout: Layout, count: u16, facts: u64, words: &[u64], first: u16, 
     }
     let a = words[place(first)];
     if count == 1 {
-        return call_one(
+        return call_row(
             layout.states,
             layout.width,
             layout.ones,
             layout.starts,
             facts,
+            0,
+            layout.ones,
             a,
         );
     }

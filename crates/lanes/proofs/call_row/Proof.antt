@@ -1,19 +1,23 @@
--- Invariant: the word has the call over the first y lanes of the second argument. Measure: the lanes left. A lane times
+-- Invariant: the word has the call over the first y states of the argument. Measure: the states left. A lane times
 -- bits that stand a lane apart fits into the word.
 use mathlib.Core.Path.{_≡_, _∙_}
+use mathlib.Core.List.{[]}
 use Prim.Native.Nat.{_+_, _*_, _-_, _≤_}
 use native.Mathlib.Omega.{arith}
 use Rattle.foundation.specs.Bits.{or-more, or-none}
-use Rattle.kind_words.specs.Lanes.{callRow}
+use Rattle.kind_words.specs.Lanes.{callStates}
 use Rattle.lanes.proofs.Room.{room, under, times-fits}
 use Rattle.lanes.proofs.call_row.Statement.{statement}
 use Rattle.lanes.proofs.call_row.Tie as tie
 
 abbrev Inv-loop : tie.InvT-loop
-Inv-loop o l m qs e d ax b w₀ t₀ s₀ y₀ w t s y = (y ≤ o) × (t ≡ y * l) × (s ≡ d + y) × (w ≡ callRow o l qs e ax b d y)
+Inv-loop o l m qs e d ax b w₀ t₀ s₀ y₀ w t s y = (y ≤ o) × (t ≡ y * l) × (s ≡ d * o + y) × (w ≡ callStates o l qs e ax d b [] y)
 
 abbrev μ-loop : tie.MeasureT-loop
 μ-loop o l m qs e d ax b w₀ t₀ s₀ y₀ w t s y = o - y
+
+mul-code : tie.Need-mul-code Inv-loop μ-loop
+mul-code c = omega arith
 
 loop-holds : tie.Need-loop-holds Inv-loop μ-loop
 loop-holds c = (omega arith, omega arith, omega arith, or-none _)
@@ -28,7 +32,7 @@ spread-requires : tie.Need-spread-requires Inv-loop μ-loop
 spread-requires c κs =
     let args = c .before .before .args in
     let pre = c .before .before .pre in
-    (omega arith, times-fits (args .states) (args .width) (args .ones) (args .starts) _ (args .facts) (c .before .loop .code) (pre .0) (under (args .width) (args .first) _ (pre .2)))
+    (omega arith, times-fits (args .states) (args .width) (args .ones) (args .starts) _ (args .facts) (c .before .loop .code) (pre .0) (under (args .width) (args .lane) _ (pre .2)))
 
 add-place : tie.Need-add-place Inv-loop μ-loop
 add-place c =
@@ -61,6 +65,7 @@ call-row-spec =
     (tie.spec
     Inv-loop
     μ-loop
+    mul-code
     loop-holds
     shr-spread
     spread-requires

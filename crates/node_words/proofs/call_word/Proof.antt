@@ -3,7 +3,7 @@ use mathlib.Core.Path.{_∙_}
 use Prim.Native.Nat.{_-_}
 use native.Mathlib.Omega.{arith}
 use borrow.Author.Needs.{needs}
-use borrow.Author.Tests.{eq-eqb, ne-eqb}
+use Rattle.kind_words.specs.Nodes.{call-none, call-first, call-both}
 use Rattle.lanes.proofs.Room.{square-small, times-fits, ones-less}
 use Rattle.node_words.proofs.call_word.Statement.{statement}
 use Rattle.node_words.proofs.call_word.Tie as tie
@@ -15,7 +15,9 @@ spread-requires c κs =
     (omega arith, times-fits (args .layout .states) (args .layout .width) (args .layout .ones) (args .layout .starts) (args .layout .ones) (args .facts) 0 (pre .0 .laid) (ones-less (args .layout .width) (args .layout .ones) (pre .0 .laid .lane)))
 
 returns : tie.Need-returns
-returns c = rw (eq-eqb (c .before .before .before .args .count) 0 (c .before .if1 .taken)) (c .spread .ensures)
+returns c =
+    let a = c .before .before .before .args in
+    call-none (a .layout .states) (a .layout .width) (a .layout .ones) (a .layout .starts) (a .count) (a .facts) _ _ _ (c .before .if1 .taken) (c .spread .ensures)
 
 place-requires : tie.Need-place-requires
 place-requires c κs = search needs
@@ -26,13 +28,17 @@ mul-a c = search needs
 shared-slice-read-a : tie.Need-shared-slice-read-a
 shared-slice-read-a c = rw (c .before .place .ensures) (c .before .before .before .before .pre .1 (omega arith))
 
-call-one-requires : tie.Need-call-one-requires
-call-one-requires c κs = search needs
+call-row-requires : tie.Need-call-row-requires
+call-row-requires c κs =
+    let args = c .before .before .before .before .before .args in
+    let laid = c .before .before .before .before .before .pre .0 .laid in
+    (laid, omega (arith, c .before .before .before .before .before .pre .0 .few), ones-less (args .layout .width) (args .layout .ones) (laid .lane))
 
 returns-2 : tie.Need-returns-2
 returns-2 c =
-    let args = c .before .before .before .before .before .before .args in
-    rw (ne-eqb (args .count) 0 (c .before .before .before .before .if1 .left), eq-eqb (args .count) 1 (c .before .if2 .taken)) (c .call-one .ensures ∙ rw (c .before .before .before .place .ensures))
+    let a = c .before .before .before .before .before .before .args in
+    call-first (a .layout .states) (a .layout .width) (a .layout .ones) (a .layout .starts) (a .count) (a .facts) _ _ _ (c .before .if2 .taken)
+    (c .call-row .ensures ∙ rw (c .before .before .before .place .ensures))
 
 place-requires-2 : tie.Need-place-requires-2
 place-requires-2 c κs = search needs
@@ -50,8 +56,9 @@ call-two-requires c κs =
 
 returns-3 : tie.Need-returns-3
 returns-3 c =
-    let args = c .before .before .before .before .before .before .before .before .args in
-    rw (ne-eqb (args .count) 0 (c .before .before .before .before .before .before .if1 .left), ne-eqb (args .count) 1 (c .before .before .before .if2 .left)) (c .call-two .ensures ∙ rw (c .before .before .before .before .before .place .ensures, c .before .before .place2 .ensures))
+    let a = c .before .before .before .before .before .before .before .before .args in
+    call-both (a .layout .states) (a .layout .width) (a .layout .ones) (a .layout .starts) (a .count) (a .facts) _ _ _ (omega arith)
+    (c .call-two .ensures ∙ rw (c .before .before .before .before .before .place .ensures, c .before .before .place2 .ensures))
 
 pub call-word-spec : {M : Type 1} → statement M
 call-word-spec =
@@ -62,7 +69,7 @@ call-word-spec =
     place-requires
     mul-a
     shared-slice-read-a
-    call-one-requires
+    call-row-requires
     returns-2
     place-requires-2
     mul-call-two

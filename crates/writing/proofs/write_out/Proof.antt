@@ -17,7 +17,7 @@ first-wrong-row-requires : tie.Need-first-wrong-row-requires
 first-wrong-row-requires c κs = search needs
 
 returns-2 : tie.Need-returns-2
-returns-2 c = wrong-row _ _ _ (sym (c .before .before .before .rows-wrong .ensures) ∙ c .before .before .if1 .left) _ (c .before .first-wrong-row .ensures) (c .if2 .taken)
+returns-2 c = wrong-row _ _ _ (sym (c .before .before .before .rows-wrong .ensures) ∙ c .before .before .if1 .left) _ (c .before .first-wrong-row .ensures) (omega arith)
 
 returns-3 : tie.Need-returns-3
 returns-3 c = no-row _ _ _ (sym (c .before .before .before .before .rows-wrong .ensures) ∙ c .before .before .before .if1 .left) _ (c .before .before .first-wrong-row .ensures) (c .before .if2 .left) (c .if3 .taken)
