@@ -5,7 +5,7 @@ use crate::engine::{Answer, Engine};
 use std::thread;
 
 /// What the deepest run needs, and some room: running nests as deep as the document and the expressions are.
-pub const RUN_STACK: usize = 64 << 20;
+pub const RUN_STACK: usize = 32 << 20;
 
 /// Which answer it is, and its values.
 #[repr(C)]
