@@ -106,10 +106,16 @@ module _ (S I O : ℕ) (cs rows inputMarks table outputMarks ns rs : List ℕ) w
       let c : length outputMarks ≡ O = output-marks-long C (shape-lengths e) in
       omega arith
 
+  pub few-procedures : shapeVerdict ≡ fine → length cs ≤ 16
+  few-procedures e = sizes-good C (shape-sizes e) .procedures .≤most
+
   pub small-counts : shapeVerdict ≡ fine → typesVerdict ≡ fine → SmallCounts O cs
   small-counts e t =
-      let s = sizes-good C (shape-sizes e) in
-      record { states≤ = s .outputStates .≤most; procedures≤ = s .procedures .≤most; count≤ = counts-good C (types-counts t) }
+      record {
+        states≤ = sizes-good C (shape-sizes e) .outputStates .≤most;
+        procedures≤ = few-procedures e;
+        count≤ = counts-good C (types-counts t);
+      }
 
   pub few-nodes : shapeVerdict ≡ fine → nodeCount ns ≤ 256
   few-nodes e = nodes-whole C (shape-lengths e) .few

@@ -13,6 +13,7 @@ use admission_tables::sizes::first_bad_size;
 use answers::AdmissionAnswer;
 use answers::ContractFault;
 use numbering::fact_total;
+use tables::Procedure;
 ghost use mathlib.Core.Path.{_≡_};
 ghost use Prim.Native.Nat.{_+_, _≤_};
 ghost use lib.ListN.{length};
@@ -56,6 +57,7 @@ fn admit_types(
     output_marks: &[u16],
 ) -> AdmissionAnswer
     requires { ⌜ length (now «input_marks») + length (now «output_table») + length (now «output_marks») ≤ 512 ⌝ }
+    requires { ⌜ length (now counts) ≤ 16 ⌝ }
     ensures { λ r. ⌜ admissionAnswer r ≡ answerOf (types symbols «input_states» «output_states» (now (counts .entry)) (now («input_rows» .entry))
         (now («input_marks» .entry)) (now («output_table» .entry)) (now («output_marks» .entry))) ⌝ }
 {
@@ -67,9 +69,9 @@ fn admit_types(
     if entry < input_marks.len() + output_table.len() + output_marks.len() {
         return AdmissionAnswer::Refused(ContractFault::Entry(entry));
     }
-    let procedure = first_bad_count(counts);
-    if procedure < counts.len() {
-        return AdmissionAnswer::Refused(ContractFault::Count(procedure));
+    let place = first_bad_count(counts);
+    if place < counts.len() {
+        return AdmissionAnswer::Refused(ContractFault::Count(Procedure(place as u16)));
     }
     AdmissionAnswer::Admitted
 }

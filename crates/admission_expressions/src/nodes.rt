@@ -1,7 +1,11 @@
 // Refusal 6: expression nodes.
 use tables::Node;
+use tables::Procedure;
+use tables::Symbol;
 use tables::node_at;
+use tables::procedure_wrong;
 use tables::reference_count;
+use tables::symbol_wrong;
 ghost use mathlib.Core.Path.{_≡_};
 ghost use Rattle.foundation.specs.Search.{first};
 ghost use Rattle.model.specs.Tables.{nodeAt, nodeCount};
@@ -12,14 +16,13 @@ ghost use Rattle.tables.specs.Tuples.{nodeOf};
 fn name_wrong(symbols: usize, counts: &[u16], node: Node) -> bool
     ensures { λ r. ⌜ r ≡ nameWrong symbols (now (counts .entry)) (nodeOf node) ⌝ }
 {
-    let name = node.name as usize;
     if node.tag == 0 {
         return (node.name < 1) | (2 < node.name);
     }
     if node.tag == 1 {
-        return symbols <= name;
+        return symbol_wrong(symbols, Symbol(node.name));
     }
-    counts.len() <= name
+    procedure_wrong(counts.len(), Procedure(node.name))
 }
 
 // A call goes to no child.

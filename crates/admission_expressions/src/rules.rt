@@ -3,8 +3,11 @@ use crate::uses::fill_calls;
 use crate::uses::fill_greatest;
 use admission_tables::reading::test_at;
 use tables::Rule;
+use tables::count_of;
 use tables::number_at;
+use tables::procedure_wrong;
 use tables::rule_at;
+use tables::symbol_wrong;
 ghost use mathlib.Core.Path.{_≡_};
 ghost use Prim.Native.Nat.{_≤_};
 ghost use lib.ListN.{length};
@@ -28,14 +31,12 @@ fn rule_wrong(
     requires { ⌜ CallsKnown (now counts) (now nodes) (nodeCount (now nodes)) (now calls) ⌝ }
     ensures { λ r. ⌜ r ≡ ruleWrong symbols (now (counts .entry)) (now (nodes .entry)) (ruleOf rule) ⌝ }
 {
-    let procedure = rule.procedure.0 as usize;
-    let symbol = rule.symbol.0 as usize;
     let node = rule.node as usize;
-    (counts.len() <= procedure)
-        | (symbols <= symbol)
+    procedure_wrong(counts.len(), rule.procedure)
+        | symbol_wrong(symbols, rule.symbol)
         | (nodes.len() / 5 <= node)
-        | (number_at(counts, procedure) < number_at(greatest, node))
-        | ((symbol == 0) & test_at(calls, node))
+        | (count_of(counts, rule.procedure) < number_at(greatest, node))
+        | ((rule.symbol.0 == 0) & test_at(calls, node))
 }
 
 // The first bad rule, or how many there are, by the tables of what the nodes use.

@@ -1,7 +1,13 @@
 // Refusals 3, 4 and 5: input rows, marks and output entries, parameter counts.
 use tables::InputRow;
+use tables::Procedure;
+use tables::count_of;
 use tables::input_row_at;
+use tables::input_state_wrong;
 use tables::number_at;
+use tables::output_state_at;
+use tables::output_state_wrong;
+use tables::symbol_wrong;
 ghost use mathlib.Core.Path.{_≡_};
 ghost use Prim.Native.Nat.{_+_, _≤_};
 ghost use lib.ListN.{length};
@@ -14,15 +20,11 @@ ghost use Rattle.tables.specs.Tuples.{inputRowOf};
 fn input_row_wrong(symbols: usize, states: usize, row: InputRow) -> bool
     ensures { λ r. ⌜ r ≡ inputRowWrong symbols states (inputRowOf row) ⌝ }
 {
-    let state = row.state.0 as usize;
-    let symbol = row.symbol.0 as usize;
-    let left = row.left.0 as usize;
-    let right = row.right.0 as usize;
-    (states <= state)
-        | (symbols <= symbol)
-        | (states <= left)
-        | (states <= right)
-        | ((symbol == 0) & !((left == 0) & (right == 0)))
+    input_state_wrong(states, row.state)
+        | symbol_wrong(symbols, row.symbol)
+        | input_state_wrong(states, row.left)
+        | input_state_wrong(states, row.right)
+        | ((row.symbol.0 == 0) & !((row.left.0 == 0) & (row.right.0 == 0)))
 }
 
 // The first bad input row, or how many there are.
@@ -57,7 +59,7 @@ fn entry_wrong(
         return 1 < number_at(input_marks, k);
     }
     if k < marks {
-        return output_states <= number_at(output_table, k - table) as usize;
+        return output_state_wrong(output_states, output_state_at(output_table, k - table));
     }
     1 < number_at(output_marks, k - marks)
 }
@@ -85,21 +87,22 @@ pub fn first_bad_entry(
 }
 
 // A parameter count is above 2, or the start has parameters.
-fn count_wrong(counts: &[u16], p: usize) -> bool
-    ensures { λ r. ⌜ r ≡ countWrong (now (counts .entry)) p ⌝ }
+fn count_wrong(counts: &[u16], procedure: Procedure) -> bool
+    ensures { λ r. ⌜ r ≡ countWrong (now (counts .entry)) (procedure .0) ⌝ }
 {
-    let count = number_at(counts, p);
-    (2 < count) | ((p == 0) & !(count == 0))
+    let count = count_of(counts, procedure);
+    (2 < count) | ((procedure.0 == 0) & !(count == 0))
 }
 
-// The first procedure of a bad parameter count, or how many procedures there are.
+// The first place of a bad parameter count, or how many procedures there are.
 pub fn first_bad_count(counts: &[u16]) -> usize
+    requires { ⌜ length (now counts) ≤ 16 ⌝ }
     ensures { λ r. ⌜ r ≡ first (countWrong (now (counts .entry))) (length (now (counts .entry))) ⌝ }
 {
     let n = counts.len();
     let mut k = 0;
     while k < n {
-        if count_wrong(counts, k) {
+        if count_wrong(counts, Procedure(k as u16)) {
             return k;
         }
         k += 1;

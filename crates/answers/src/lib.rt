@@ -14,8 +14,8 @@ pub enum ContractFault {
     InputRow(usize),
     // A mark above 1, or an output entry that is no state.
     Entry(usize),
-    // A bad parameter count.
-    Count(usize),
+    // The procedure of a bad parameter count.
+    Count(Procedure),
     // A bad expression node.
     Node(usize),
     // A bad rule.

@@ -28,7 +28,7 @@ fn of_contract(fault: ContractFault) -> Answer
         ContractFault::Length(place) => Answer::Refused(2, place),
         ContractFault::InputRow(row) => Answer::Refused(3, row),
         ContractFault::Entry(index) => Answer::Refused(4, index),
-        ContractFault::Count(procedure) => Answer::Refused(5, procedure),
+        ContractFault::Count(procedure) => Answer::Refused(5, procedure.0 as usize),
         ContractFault::Node(node) => Answer::Refused(6, node),
         ContractFault::Rule(rule) => Answer::Refused(7, rule),
         ContractFault::Facts(total) => Answer::Refused(8, total),

@@ -12,6 +12,7 @@ ghost use Rattle.reading.specs.Answers.{leadingOf, documentVerdict};
 ghost use Rattle.reading.specs.Ends.{EndsFrom};
 use answers::DocumentFault;
 use tables::Symbol;
+use tables::symbol_wrong;
 
 // How a stretch of numbers begins.
 pub enum Leading {
@@ -28,11 +29,11 @@ pub enum DocumentAnswer {
     Refused(DocumentFault),
 }
 
-// A number of a document, to be compared or used as a place.
-fn wide(number: u16) -> usize
-    ensures { λ r. ⌜ r ≡ number ⌝ }
+// Where a tree ends, to be used as a place.
+fn wide(end: u16) -> usize
+    ensures { λ r. ⌜ r ≡ end ⌝ }
 {
-    number as usize
+    end as usize
 }
 
 // How many trees are still to come after a symbol, where `due` were to come before it.
@@ -56,11 +57,11 @@ pub fn leading_tree(symbols: usize, numbers: &[u16]) -> Leading
         if numbers.len() <= at {
             return Leading::Faulty(at);
         }
-        let number = numbers[at];
-        if symbols <= wide(number) {
+        let symbol = Symbol(numbers[at]);
+        if symbol_wrong(symbols, symbol) {
             return Leading::Faulty(at);
         }
-        due = due_after(due, Symbol(number));
+        due = due_after(due, symbol);
         at += 1;
     }
     Leading::Ends(at)

@@ -1,12 +1,14 @@
-// Typed numbers, the tuples of the tables read by name, and how many nodes a node refers to.
+// Typed numbers, the tests of each against how many there are, the tuples of the tables read by name, and how many nodes a node
+// refers to.
 //
 // An input state, an output state, a procedure and a symbol are each a type of their own, so that code that hands one
 // where another is due does not build. A size (how many symbols there are) and a node or row number are plain numbers.
 ghost use mathlib.Core.Path.{_≡_};
 ghost use Prim.Native.Nat.{_<_};
+ghost use lib.Dec.{leb};
 ghost use lib.ListN.{getD, length};
 ghost use Rattle.model.specs.Rows.{rowAt, rowCount};
-ghost use Rattle.model.specs.Tables.{inputRow, inputRowCount, nodeAt, nodeCount, ruleAt, ruleCount};
+ghost use Rattle.model.specs.Tables.{inputRow, inputRowCount, nodeAt, nodeCount, ruleAt, ruleCount, countOf};
 ghost use Rattle.model.specs.Admission.{references};
 ghost use Rattle.tables.specs.Tuples.{inputRowOf, nodeOf, ruleOf, rowOf};
 
@@ -49,6 +51,34 @@ pub struct Row {
     pub right: u16,
 }
 
+// A number is none of so many symbols.
+pub fn symbol_wrong(symbols: usize, symbol: Symbol) -> bool
+    ensures { λ r. ⌜ r ≡ leb symbols (symbol .0) ⌝ }
+{
+    symbols <= symbol.0 as usize
+}
+
+// A number is none of so many input states.
+pub fn input_state_wrong(input_states: usize, state: InputState) -> bool
+    ensures { λ r. ⌜ r ≡ leb «input_states» (state .0) ⌝ }
+{
+    input_states <= state.0 as usize
+}
+
+// A number is none of so many output states.
+pub fn output_state_wrong(output_states: usize, state: OutputState) -> bool
+    ensures { λ r. ⌜ r ≡ leb «output_states» (state .0) ⌝ }
+{
+    output_states <= state.0 as usize
+}
+
+// A number is none of so many procedures.
+pub fn procedure_wrong(procedures: usize, procedure: Procedure) -> bool
+    ensures { λ r. ⌜ r ≡ leb procedures (procedure .0) ⌝ }
+{
+    procedures <= procedure.0 as usize
+}
+
 // The number at a place of a table, and 0 past its end.
 pub fn number_at(table: &[u16], k: usize) -> u16
     ensures { λ r. ⌜ r ≡ getD (now (table .entry)) k 0 ⌝ }
@@ -57,6 +87,13 @@ pub fn number_at(table: &[u16], k: usize) -> u16
         return table[k];
     }
     0
+}
+
+// How many parameters a procedure has, and 0 where there is no such procedure.
+pub fn count_of(counts: &[u16], procedure: Procedure) -> u16
+    ensures { λ r. ⌜ r ≡ countOf (now (counts .entry)) (procedure .0) ⌝ }
+{
+    number_at(counts, procedure.0 as usize)
 }
 
 // Row k of an input type.
@@ -105,7 +142,7 @@ pub fn reference_count(counts: &[u16], node: Node) -> u16
         return 2;
     }
     if node.tag == 2 {
-        return number_at(counts, node.name as usize);
+        return count_of(counts, Procedure(node.name));
     }
     0
 }

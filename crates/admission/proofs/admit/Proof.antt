@@ -2,7 +2,7 @@
 -- admits establishes what the next one asks.
 use mathlib.Core.Path.{sym, _∙_}
 use borrow.Author.Needs.{needs}
-use Rattle.admission.proofs.Order.{stages, stage-passed, stage-refused, answer-passed, few-entries, small-counts, few-nodes}
+use Rattle.admission.proofs.Order.{stages, stage-passed, stage-refused, answer-passed, few-entries, few-procedures, small-counts, few-nodes}
 use Rattle.admission.proofs.admit.Statement.{statement}
 use Rattle.admission.proofs.admit.Tie as tie
 
@@ -21,8 +21,10 @@ returns c = stage-refused _ _ _ _ (c .enum-told2 .given .1) (c .before .before .
 admit-types-requires : tie.Need-admit-types-requires
 admit-types-requires c κs =
     let a = c .before .before .before .before .before .before .before .before .before .before .args in
-    few-entries (a .symbols) (a .input-states) (a .output-states) (a .counts .now) (a .input-rows .now) (a .input-marks .now) (a .output-table .now) (a .output-marks .now) (a .nodes .now) (a .rules .now)
-    (stage-passed _ _ (c .enum-told .given .1) (c .before .before .admit-shape .ensures))
+    let shaped = stage-passed _ _ (c .enum-told .given .1) (c .before .before .admit-shape .ensures) in (
+      few-entries (a .symbols) (a .input-states) (a .output-states) (a .counts .now) (a .input-rows .now) (a .input-marks .now) (a .output-table .now) (a .output-marks .now) (a .nodes .now) (a .rules .now) shaped,
+      few-procedures (a .symbols) (a .input-states) (a .output-states) (a .counts .now) (a .input-rows .now) (a .input-marks .now) (a .output-table .now) (a .output-marks .now) (a .nodes .now) (a .rules .now) shaped,
+    )
 
 enum-told-3 : tie.Need-enum-told-3
 enum-told-3 c = search needs

@@ -1,5 +1,6 @@
 -- `admit_types`: a search that ends before its last place refuses, one that does not is fine; each answer is that of the first
 -- part that refuses.
+use native.Mathlib.Omega.{arith}
 use borrow.Author.Needs.{needs}
 use Rattle.model.specs.Admission.{inputRows, entries, counts}
 use Rattle.model.proofs.Laws.Answers.{refuse-first-at, refuse-first-none}
@@ -35,6 +36,9 @@ returns-2 c =
 first-bad-count-requires : tie.Need-first-bad-count-requires
 first-bad-count-requires c κs = search needs
 
+cast-t20 : tie.Need-cast-t20
+cast-t20 c = omega arith
+
 returns-3 : tie.Need-returns-3
 unfolding types inputRows entries counts
 returns-3 c =
@@ -66,5 +70,6 @@ admit-types-spec =
     add-if2-2
     returns-2
     first-bad-count-requires
+    cast-t20
     returns-3
     returns-4)

@@ -1,7 +1,9 @@
 -- `reading::leading_tree` meets its contract. The loop's invariant: what is read of all the numbers is what is read from the
 -- place reached on, where `due` trees are to come, at most one more than numbers passed. The measure is what is left.
+use mathlib.Core.Path.{sym, _∙_}
 use Prim.Native.Nat.{_+_, _-_, _≤_}
 use native.Mathlib.Omega.{arith}
+use borrow.Author.Tests.{leb-true, leb-false}
 use lib.ListN.{length, getD}
 use Rattle.reading.proofs.Steps.{Reached, reached-start, reached-end, reached-short, reached-fault, reached-next, due-bound}
 use Rattle.reading.proofs.leading_tree.Statement.{statement}
@@ -19,17 +21,17 @@ loop-holds c = (omega arith, omega arith, reached-start _ _)
 returns : tie.Need-returns Inv-loop μ-loop
 returns c = reached-short _ _ _ _ (c .before .before .loop .inv .2) (omega arith) (omega arith)
 
-mul-number : tie.Need-mul-number Inv-loop μ-loop
-mul-number c = omega arith
+mul-t7 : tie.Need-mul-t7 Inv-loop μ-loop
+mul-t7 c = omega arith
 
-shared-slice-read-number : tie.Need-shared-slice-read-number Inv-loop μ-loop
-shared-slice-read-number c = omega arith
+shared-slice-read-t9 : tie.Need-shared-slice-read-t9 Inv-loop μ-loop
+shared-slice-read-t9 c = omega arith
 
-wide-requires : tie.Need-wide-requires Inv-loop μ-loop
-wide-requires c κs = tt
+symbol-wrong-requires : tie.Need-symbol-wrong-requires Inv-loop μ-loop
+symbol-wrong-requires c κs = tt
 
 returns-2 : tie.Need-returns-2 Inv-loop μ-loop
-returns-2 c = reached-fault _ _ _ _ (c .before .before .before .before .before .loop .inv .2) (omega arith) (omega arith) (rw (c .before .wide .ensures) at (c .if2 .taken))
+returns-2 c = reached-fault _ _ _ _ (c .before .before .before .before .before .loop .inv .2) (omega arith) (omega arith) (leb-true _ _ (sym (c .before .symbol-wrong .ensures) ∙ c .if2 .taken))
 
 due-after-requires : tie.Need-due-after-requires Inv-loop μ-loop
 due-after-requires c κs = omega arith
@@ -46,7 +48,7 @@ loop-again c =
     let e = c .due-after .ensures in (
       omega arith,
       rw e (omega (arith, due-bound number (c .before .before .before .before .before .before .loop .due))),
-      rw e (reached-next _ _ _ _ (c .before .before .before .before .before .before .loop .inv .2) (omega arith) (omega arith) (rw (c .before .before .wide .ensures) at (c .before .if2 .left))),
+      rw e (reached-next _ _ _ _ (c .before .before .before .before .before .before .loop .inv .2) (omega arith) (omega arith) (leb-false _ _ (sym (c .before .before .symbol-wrong .ensures) ∙ c .before .if2 .left))),
     )
 
 returns-3 : tie.Need-returns-3 Inv-loop μ-loop
@@ -60,9 +62,9 @@ leading-tree-spec =
     μ-loop
     loop-holds
     returns
-    mul-number
-    shared-slice-read-number
-    wide-requires
+    mul-t7
+    shared-slice-read-t9
+    symbol-wrong-requires
     returns-2
     due-after-requires
     add-at

@@ -3,11 +3,11 @@ use borrow.Author.Needs.{needs}
 use Rattle.admission_tables.proofs.entries.count_wrong.Statement.{statement}
 use Rattle.admission_tables.proofs.entries.count_wrong.Tie as tie
 
-number-at-requires : tie.Need-number-at-requires
-number-at-requires c κs = search needs
+count-of-requires : tie.Need-count-of-requires
+count-of-requires c κs = search needs
 
 returns : tie.Need-returns
-returns c = rw (c .number-at .ensures)
+returns c = rw (c .before .count-of .ensures)
 
 pub count-wrong-spec : {M : Type 1} → statement M
-count-wrong-spec = tie.close (tie.spec number-at-requires returns)
+count-wrong-spec = tie.close (tie.spec count-of-requires returns)

@@ -20,6 +20,9 @@ abbrev μ-loop : tie.MeasureT-loop
 loop-holds : tie.Need-loop-holds Inv-loop μ-loop
 loop-holds c = (omega arith, below-none _)
 
+cast-t6 : tie.Need-cast-t6 Inv-loop μ-loop
+cast-t6 c = omega arith
+
 count-wrong-requires : tie.Need-count-wrong-requires Inv-loop μ-loop
 count-wrong-requires c κs = tt
 
@@ -47,6 +50,7 @@ first-bad-count-spec =
     Inv-loop
     μ-loop
     loop-holds
+    cast-t6
     count-wrong-requires
     returns
     add-k

@@ -18,6 +18,9 @@ enum-known-fault-4 c = search needs
 enum-known-fault-5 : tie.Need-enum-known-fault-5
 enum-known-fault-5 c = search needs
 
+cast-t11 : tie.Need-cast-t11
+cast-t11 c = search needs
+
 enum-known-fault-6 : tie.Need-enum-known-fault-6
 enum-known-fault-6 c = search needs
 
@@ -40,7 +43,7 @@ returns-4 : tie.Need-returns-4
 returns-4 c = rw (c .before .fault4 .given .1)
 
 returns-5 : tie.Need-returns-5
-returns-5 c = rw (c .before .fault5 .given .1)
+returns-5 c = rw (c .before .before .fault5 .given .1)
 
 returns-6 : tie.Need-returns-6
 returns-6 c = rw (c .before .fault6 .given .1)
@@ -60,6 +63,7 @@ of-contract-spec =
     enum-known-fault-3
     enum-known-fault-4
     enum-known-fault-5
+    cast-t11
     enum-known-fault-6
     enum-known-fault-7
     enum-known-fault-8
