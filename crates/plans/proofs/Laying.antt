@@ -7,69 +7,69 @@ use native.Mathlib.Nat.{zero-add}
 use native.Mathlib.Omega.{arith}
 use lib.ListN.{length, getD, take}
 use lib.Seq.{getD-take, length-take-le}
-use Rattle.plans.specs.Plans.{overlaid, Sides, Laid}
+use Rattle.plans.specs.Plans.{sidesPlace, nodesPlace, numbersPlace, endsPlace, planLength, overlaid, Sides, Laid}
 use Rattle.plans.proofs.Overlays.{length-overlaid, overlaid-in, overlaid-below}
 
 -- one list written
-pub size-written : (l t new : List ℕ) (at : ℕ) → t ≡ overlaid l at new → length l ≡ 3598 → at + length new ≤ 3598 → length t ≡ 3598
+pub size-written : (l t new : List ℕ) (at : ℕ) → t ≡ overlaid l at new → length l ≡ planLength → at + length new ≤ planLength → length t ≡ planLength
 size-written l t new at e n h = ap length e ∙ length-overlaid l at new (omega arith) ∙ n
 
-kept : (l t new : List ℕ) (at : ℕ) → t ≡ overlaid l at new → length l ≡ 3598 → at + length new ≤ 3598 → (i : ℕ) → i < at → getD t i 0 ≡ getD l i 0
+kept : (l t new : List ℕ) (at : ℕ) → t ≡ overlaid l at new → length l ≡ planLength → at + length new ≤ planLength → (i : ℕ) → i < at → getD t i 0 ≡ getD l i 0
 kept l t new at e n h i b = ap (λ (x : List ℕ). getD x i 0) e ∙ overlaid-below l at new (omega arith) i b
 
-written : (l t new : List ℕ) (at : ℕ) → t ≡ overlaid l at new → length l ≡ 3598 → at + length new ≤ 3598 → (i : ℕ) → i < length new → getD t (at + i) 0 ≡ getD new i 0
+written : (l t new : List ℕ) (at : ℕ) → t ≡ overlaid l at new → length l ≡ planLength → at + length new ≤ planLength → (i : ℕ) → i < length new → getD t (at + i) 0 ≡ getD new i 0
 written l t new at e n h i b = ap (λ (x : List ℕ). getD x (at + i) 0) e ∙ overlaid-in l at new (omega arith) i b
 
 module _ (counts nodes rules numbers ends sides : List ℕ)
     (few-counts : length counts ≤ 16) (sides-size : length sides ≡ 256) (few-nodes : length nodes ≤ 1280) (few-numbers : length numbers ≤ 1023) (long : length numbers ≤ length ends)
-    (t₀ t₁ t₂ t₃ t₄ t₅ : List ℕ) (n : length t₀ ≡ 3598)
-    (e₁ : t₁ ≡ overlaid t₀ 0 counts) (e₂ : t₂ ≡ overlaid t₁ 16 sides) (e₃ : t₃ ≡ overlaid t₂ 272 nodes) (e₄ : t₄ ≡ overlaid t₃ 1552 numbers) (e₅ : t₅ ≡ overlaid t₄ 2575 (take (length numbers) ends)) where
-  n₁ : length t₁ ≡ 3598
+    (t₀ t₁ t₂ t₃ t₄ t₅ : List ℕ) (n : length t₀ ≡ planLength)
+    (e₁ : t₁ ≡ overlaid t₀ 0 counts) (e₂ : t₂ ≡ overlaid t₁ sidesPlace sides) (e₃ : t₃ ≡ overlaid t₂ nodesPlace nodes) (e₄ : t₄ ≡ overlaid t₃ numbersPlace numbers) (e₅ : t₅ ≡ overlaid t₄ endsPlace (take (length numbers) ends)) where
+  n₁ : length t₁ ≡ planLength
   n₁ = size-written t₀ t₁ counts 0 e₁ n (omega arith)
 
-  n₂ : length t₂ ≡ 3598
-  n₂ = size-written t₁ t₂ sides 16 e₂ n₁ (omega arith)
+  n₂ : length t₂ ≡ planLength
+  n₂ = size-written t₁ t₂ sides sidesPlace e₂ n₁ (omega arith)
 
-  n₃ : length t₃ ≡ 3598
-  n₃ = size-written t₂ t₃ nodes 272 e₃ n₂ (omega arith)
+  n₃ : length t₃ ≡ planLength
+  n₃ = size-written t₂ t₃ nodes nodesPlace e₃ n₂ (omega arith)
 
-  n₄ : length t₄ ≡ 3598
-  n₄ = size-written t₃ t₄ numbers 1552 e₄ n₃ (omega arith)
+  n₄ : length t₄ ≡ planLength
+  n₄ = size-written t₃ t₄ numbers numbersPlace e₄ n₃ (omega arith)
 
   ends-taken : length (take (length numbers) ends) ≡ length numbers
   ends-taken = length-take-le (length numbers) ends long
 
-  below-ends : (i : ℕ) → i < 2575 → getD t₅ i 0 ≡ getD t₄ i 0
-  below-ends i h = kept t₄ t₅ (take (length numbers) ends) 2575 e₅ n₄ (omega (arith, ends-taken)) i h
+  below-ends : (i : ℕ) → i < endsPlace → getD t₅ i 0 ≡ getD t₄ i 0
+  below-ends i h = kept t₄ t₅ (take (length numbers) ends) endsPlace e₅ n₄ (omega (arith, ends-taken)) i h
 
-  below-numbers : (i : ℕ) → i < 1552 → getD t₅ i 0 ≡ getD t₃ i 0
-  below-numbers i h = below-ends i (omega arith) ∙ kept t₃ t₄ numbers 1552 e₄ n₃ (omega arith) i h
+  below-numbers : (i : ℕ) → i < numbersPlace → getD t₅ i 0 ≡ getD t₃ i 0
+  below-numbers i h = below-ends i (omega arith) ∙ kept t₃ t₄ numbers numbersPlace e₄ n₃ (omega arith) i h
 
-  below-nodes : (i : ℕ) → i < 272 → getD t₅ i 0 ≡ getD t₂ i 0
-  below-nodes i h = below-numbers i (omega arith) ∙ kept t₂ t₃ nodes 272 e₃ n₂ (omega arith) i h
+  below-nodes : (i : ℕ) → i < nodesPlace → getD t₅ i 0 ≡ getD t₂ i 0
+  below-nodes i h = below-numbers i (omega arith) ∙ kept t₂ t₃ nodes nodesPlace e₃ n₂ (omega arith) i h
 
-  node-number : (i j : ℕ) → i ≡ 272 + j → j < length nodes → getD t₅ i 0 ≡ getD nodes j 0
-  node-number i j e h = ap (λ (x : ℕ). getD t₅ x 0) e ∙ below-numbers (272 + j) (omega arith) ∙ written t₂ t₃ nodes 272 e₃ n₂ (omega arith) j h
+  node-number : (i j : ℕ) → i ≡ nodesPlace + j → j < length nodes → getD t₅ i 0 ≡ getD nodes j 0
+  node-number i j e h = ap (λ (x : ℕ). getD t₅ x 0) e ∙ below-numbers (nodesPlace + j) (omega arith) ∙ written t₂ t₃ nodes nodesPlace e₃ n₂ (omega arith) j h
 
   pub laid : Sides rules sides → Laid counts nodes rules numbers ends t₅
   laid right =
       record {
         count = λ p h.
             below-nodes p (omega arith)
-            ∙ kept t₁ t₂ sides 16 e₂ n₁ (omega arith) p (omega arith)
+            ∙ kept t₁ t₂ sides sidesPlace e₂ n₁ (omega arith) p (omega arith)
             ∙ ap (λ (x : ℕ). getD t₁ x 0) (sym (zero-add p))
             ∙ written t₀ t₁ counts 0 e₁ n (omega arith) p h;
-        side = λ p s hp hs. below-nodes (16 + (16 * p + s)) (omega arith) ∙ written t₁ t₂ sides 16 e₂ n₁ (omega arith) (16 * p + s) (omega arith) ∙ right p s hp hs;
+        side = λ p s hp hs. below-nodes (sidesPlace + (16 * p + s)) (omega arith) ∙ written t₁ t₂ sides sidesPlace e₂ n₁ (omega arith) (16 * p + s) (omega arith) ∙ right p s hp hs;
         node = λ k h.
             rw (
-              node-number (272 + 5 * k) (5 * k) refl (omega arith),
-              node-number (272 + 5 * k + 1) (5 * k + 1) (omega arith) (omega arith),
-              node-number (272 + 5 * k + 2) (5 * k + 2) (omega arith) (omega arith),
-              node-number (272 + 5 * k + 3) (5 * k + 3) (omega arith) (omega arith),
-              node-number (272 + 5 * k + 4) (5 * k + 4) (omega arith) (omega arith),
+              node-number (nodesPlace + 5 * k) (5 * k) refl (omega arith),
+              node-number (nodesPlace + 5 * k + 1) (5 * k + 1) (omega arith) (omega arith),
+              node-number (nodesPlace + 5 * k + 2) (5 * k + 2) (omega arith) (omega arith),
+              node-number (nodesPlace + 5 * k + 3) (5 * k + 3) (omega arith) (omega arith),
+              node-number (nodesPlace + 5 * k + 4) (5 * k + 4) (omega arith) (omega arith),
             );
-        symbol = λ i h. below-ends (1552 + i) (omega arith) ∙ written t₃ t₄ numbers 1552 e₄ n₃ (omega arith) i h;
+        symbol = λ i h. below-ends (numbersPlace + i) (omega arith) ∙ written t₃ t₄ numbers numbersPlace e₄ n₃ (omega arith) i h;
         end = λ i h.
-            written t₄ t₅ (take (length numbers) ends) 2575 e₅ n₄ (omega (arith, ends-taken)) i (omega (arith, ends-taken))
+            written t₄ t₅ (take (length numbers) ends) endsPlace e₅ n₄ (omega (arith, ends-taken)) i (omega (arith, ends-taken))
             ∙ getD-take (length numbers) ends i 0 h;
       }

@@ -1,17 +1,29 @@
 // Plans: what a run reads, laid out in one table, so that a step of the work is handed one table instead of five.
 //
-// From place 0 the parameter counts of 16 procedures; from 16 the right side of the first rule listed for each of 16
-// procedures and 16 symbols; from 272 the 256 nodes, five numbers each; from 1552 the numbers of the document; from 2575 the
-// place where the tree of each of them ends.
+// First stand the parameter counts of 16 procedures; then the right side of the first rule listed for each of 16 procedures and
+// 16 symbols; the 256 nodes, five numbers each; the numbers of the document; and the place where the tree of each of them ends.
 ghost use mathlib.Core.Path.{_≡_};
 ghost use Prim.Native.Nat.{_+_, _*_, _<_, _≤_};
 ghost use lib.ListN.{length, getD, replicate};
 ghost use Rattle.tables.specs.Tuples.{nodeOf};
-ghost use Rattle.plans.specs.Plans.{overlaid, planNode, SmallRules, Sides, Laid};
+ghost use Rattle.plans.specs.Plans.{sidesPlace, numbersPlace, endsPlace, planLength, overlaid, planNode, SmallRules, Sides, Laid};
 use tables::Node;
 use tables::Procedure;
 use tables::Symbol;
 use tables::rule_at;
+
+// Where the right sides, the nodes, the document's numbers and the ends of its trees begin, and how long a plan is.
+const SIDES: usize = 16;
+
+const NODES: usize = SIDES + 16 * 16;
+
+const NUMBERS: usize = NODES + 256 * 5;
+
+const ENDS: usize = NUMBERS + 1023;
+
+const LENGTH: usize = ENDS + 1023;
+
+pub type Plan = [u16; LENGTH];
 
 fn wide(x: u16) -> usize
     ensures { λ r. ⌜ r ≡ x ⌝ }
@@ -28,7 +40,7 @@ fn entry_place(procedure: Procedure, symbol: Symbol) -> usize
 }
 
 // How many parameters a procedure has.
-pub fn count_of(plan: &[u16; 3598], procedure: Procedure) -> u16
+pub fn count_of(plan: &Plan, procedure: Procedure) -> u16
     requires { ⌜ procedure .0 < 16 ⌝ }
     ensures { λ r. ⌜ r ≡ getD (now (plan .entry)) (procedure .0) 0 ⌝ }
 {
@@ -36,19 +48,19 @@ pub fn count_of(plan: &[u16; 3598], procedure: Procedure) -> u16
 }
 
 // The right side of the first rule listed for a procedure and a symbol; 256 where there is none.
-pub fn side_of(plan: &[u16; 3598], procedure: Procedure, symbol: Symbol) -> usize
+pub fn side_of(plan: &Plan, procedure: Procedure, symbol: Symbol) -> usize
     requires { ⌜ (procedure .0 < 16) × (symbol .0 < 16) ⌝ }
-    ensures { λ r. ⌜ r ≡ getD (now (plan .entry)) (16 + (16 * procedure .0 + symbol .0)) 0 ⌝ }
+    ensures { λ r. ⌜ r ≡ getD (now (plan .entry)) (sidesPlace + (16 * procedure .0 + symbol .0)) 0 ⌝ }
 {
-    wide(plan[16 + entry_place(procedure, symbol)])
+    wide(plan[SIDES + entry_place(procedure, symbol)])
 }
 
 // Node k.
-pub fn node_of(plan: &[u16; 3598], k: usize) -> Node
+pub fn node_of(plan: &Plan, k: usize) -> Node
     requires { ⌜ k < 256 ⌝ }
     ensures { λ r. ⌜ nodeOf r ≡ planNode (now (plan .entry)) k ⌝ }
 {
-    let at = 272 + 5 * k;
+    let at = NODES + 5 * k;
     Node {
         tag: plan[at],
         name: plan[at + 1],
@@ -59,19 +71,19 @@ pub fn node_of(plan: &[u16; 3598], k: usize) -> Node
 }
 
 // The symbol at a place of the document.
-pub fn symbol_of(plan: &[u16; 3598], place: usize) -> Symbol
+pub fn symbol_of(plan: &Plan, place: usize) -> Symbol
     requires { ⌜ place < 1023 ⌝ }
-    ensures { λ r. ⌜ r .0 ≡ getD (now (plan .entry)) (1552 + place) 0 ⌝ }
+    ensures { λ r. ⌜ r .0 ≡ getD (now (plan .entry)) (numbersPlace + place) 0 ⌝ }
 {
-    Symbol(plan[1552 + place])
+    Symbol(plan[NUMBERS + place])
 }
 
 // Where the tree of a place of the document ends.
-pub fn end_of(plan: &[u16; 3598], place: usize) -> usize
+pub fn end_of(plan: &Plan, place: usize) -> usize
     requires { ⌜ place < 1023 ⌝ }
-    ensures { λ r. ⌜ r ≡ getD (now (plan .entry)) (2575 + place) 0 ⌝ }
+    ensures { λ r. ⌜ r ≡ getD (now (plan .entry)) (endsPlace + place) 0 ⌝ }
 {
-    wide(plan[2575 + place])
+    wide(plan[ENDS + place])
 }
 
 // The right sides of the first rules. The rules go from the last to the first, so that an earlier one takes the place of a
@@ -91,8 +103,8 @@ fn sides(rules: &[u16]) -> [u16; 256]
 }
 
 // Copies numbers into a plan, from a place on.
-fn copy_in(plan: &mut [u16; 3598], at: usize, from: &[u16])
-    requires { ⌜ (length (now plan) ≡ 3598) × (at + length (now from) ≤ 3598) ⌝ }
+fn copy_in(plan: &mut Plan, at: usize, from: &[u16])
+    requires { ⌜ (length (now plan) ≡ planLength) × (at + length (now from) ≤ planLength) ⌝ }
     ensures { λ _. ⌜ now (plan .exit) ≡ overlaid (now (plan .entry)) at (now (from .entry)) ⌝ }
 {
     let mut i = 0;
@@ -102,20 +114,14 @@ fn copy_in(plan: &mut [u16; 3598], at: usize, from: &[u16])
     }
 }
 
-fn blank() -> [u16; 3598]
-    ensures { λ r. ⌜ r ≡ replicate 3598 0 ⌝ }
+fn blank() -> Plan
+    ensures { λ r. ⌜ r ≡ replicate planLength 0 ⌝ }
 {
-    [0u16; 3598]
+    [0u16; LENGTH]
 }
 
 // The plan of a transformation and a document, of which it is known where each tree ends.
-pub fn plan(
-    counts: &[u16],
-    nodes: &[u16],
-    rules: &[u16],
-    numbers: &[u16],
-    ends: &[u16],
-) -> [u16; 3598]
+pub fn plan(counts: &[u16], nodes: &[u16], rules: &[u16], numbers: &[u16], ends: &[u16]) -> Plan
     requires { ⌜ SmallRules (now rules) ⌝ }
     requires { ⌜ (length (now counts) ≤ 16) × (length (now nodes) ≤ 1280) × (length (now numbers) ≤ 1023) × (length (now numbers) ≤ length (now ends)) ⌝ }
     ensures { λ r. ⌜ Laid (now (counts .entry)) (now (nodes .entry)) (now (rules .entry)) (now (numbers .entry)) (now (ends .entry)) r ⌝ }
@@ -123,10 +129,10 @@ pub fn plan(
     let mut table = blank();
     let first_sides = sides(rules);
     copy_in(&mut table, 0, counts);
-    copy_in(&mut table, 16, &first_sides);
-    copy_in(&mut table, 272, nodes);
-    copy_in(&mut table, 1552, numbers);
+    copy_in(&mut table, SIDES, &first_sides);
+    copy_in(&mut table, NODES, nodes);
+    copy_in(&mut table, NUMBERS, numbers);
     let places = numbers.len();
-    copy_in(&mut table, 2575, &ends[..places]);
+    copy_in(&mut table, ENDS, &ends[..places]);
     table
 }

@@ -23,7 +23,7 @@ use Rattle.running.specs.declared.Outcome.{Outcome}
 use Rattle.running.specs.declared.Outcome.the-variants.{NoRule, TooManyCalls}
 use Rattle.running.specs.Places.{Children}
 use Rattle.model.proofs.Laws.Rules.{firstRule, first-fits}
-use Rattle.plans.specs.Plans.{sideAt, Laid}
+use Rattle.plans.specs.Plans.{sidesPlace, numbersPlace, sideAt, Laid}
 use Rattle.running.specs.Work.{workOf, stepOf, operandCount, planOperands, childPlace, planChild}
 use Rattle.running.specs.Contracts.{Plan, ApplicableIn, CallableIn, EvaluableIn, Evaluable, applied, childRuns, Evaluates, Applies, Calls, transformationOf}
 use Rattle.running.proofs.Steps.{run-root}
@@ -122,7 +122,7 @@ module _ {plan : List ℕ} {place : ℕ} {n : Node} (asked : ApplicableIn plan p
           go false e = rw e at (called S free ws ef cs)
 
 -- a procedure called at a place: the right side that the plan has for it
-module _ {plan : List ℕ} {place p : ℕ} (asked : CallableIn plan place p) (s : ℕ) (es : s ≡ getD plan (1552 + place) 0) where
+module _ {plan : List ℕ} {place p : ℕ} (asked : CallableIn plan place p) (s : ℕ) (es : s ≡ getD plan (numbersPlace + place) 0) where
   abbrev caller : Plan plan
   caller = asked .known
 
@@ -132,7 +132,7 @@ module _ {plan : List ℕ} {place p : ℕ} (asked : CallableIn plan place p) (s 
   pub symbol-small : s < 16
   symbol-small = omega (arith, symbol-there, caller .text .read .symbol place (asked .inside))
 
-  module _ (side : ℕ) (found : side ≡ getD plan (16 + (16 * p + s)) 0) where
+  module _ (side : ℕ) (found : side ≡ getD plan (sidesPlace + (16 * p + s)) 0) where
     abbrev rule : ℕ
     rule = firstRule (caller .rules) p s
 

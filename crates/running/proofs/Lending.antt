@@ -7,11 +7,12 @@ use mir.Val.{Val, vint, vstruct, vnil, vcons}
 use denote.RattleType.{RattleType}
 use denote.Array.{Array}
 use denote.Builtin.{u16}
+use Rattle.plans.specs.Plans.{planLength}
 use Rattle.running.specs.declared.Tally.{Tally}
 use Rattle.running.specs.Contracts.{CallableIn}
 
 abbrev pub Words : RattleType
-Words = Array u16 3598
+Words = Array u16 planLength
 
 abbrev pub Asked : (plan rows : List ℕ) → Type 0
 Asked plan rows = CallableIn plan 0 0 × (length rows ≤ 12288)

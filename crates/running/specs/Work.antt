@@ -7,6 +7,7 @@ use Rattle.foundation.specs.Tests.{choose}
 use Rattle.model.specs.Tables.{Node, countOf}
 use Rattle.model.specs.Answers.{Answer, ran, refusal}
 use Rattle.model.specs.Running.{Work, Step, made, refused, mostCalls}
+use Rattle.plans.specs.Plans.{endsPlace}
 use Rattle.running.specs.declared.Tally.{Tally}
 use Rattle.running.specs.declared.Outcome.{Outcome}
 use Rattle.running.specs.declared.Outcome.the-variants.{Made, NoRule, NoRow, TooManyCalls}
@@ -50,7 +51,7 @@ childPlace ends place child = choose (eqb child 1) (place + 1) (getD ends (place
 
 -- the same, read from a plan
 abbrev pub planChild : List ℕ → ℕ → ℕ → ℕ
-planChild plan place child = choose (eqb child 1) (place + 1) (getD plan (2575 + (place + 1)) 0)
+planChild plan place child = choose (eqb child 1) (place + 1) (getD plan (endsPlace + (place + 1)) 0)
 
 -- how many numbers of the buffer stand at the end
 abbrev pub numbersKept : End → Tally → ℕ

@@ -20,6 +20,7 @@ ghost use Rattle.running.specs.Contracts.{transformationOf, EndsWith, af
 use admission::admit;
 use answers::AdmissionAnswer;
 use answers::RunningAnswer;
+use plans::Plan;
 use plans::count_of;
 use plans::end_of;
 use plans::node_of;
@@ -73,7 +74,7 @@ fn wide(x: u16) -> usize
 
 // The place of the child to which a call goes: 1 is the left one, right behind its parent; another the right one, where the
 // left one ends.
-fn child_place(plan: &[u16; 3598], place: usize, child: u16) -> usize
+fn child_place(plan: &Plan, place: usize, child: u16) -> usize
     requires { ⌜ place < 1022 ⌝ }
     ensures { λ r. ⌜ r ≡ planChild (now (plan .entry)) place child ⌝ }
 {
@@ -92,7 +93,7 @@ fn parameter_row(name: u16, first: u16, second: u16) -> u16
 }
 
 // How many smaller nodes are evaluated for a node that is no parameter.
-fn operand_count(plan: &[u16; 3598], node: Node) -> u16
+fn operand_count(plan: &Plan, node: Node) -> u16
     requires { ⌜ ((node .tag ≡ 1 → ⊥) → node .name < 16) ⌝ }
     ensures { λ r. ⌜ r ≡ planOperands (now (plan .entry)) (nodeOf node) ⌝ }
 {
@@ -128,7 +129,7 @@ fn add_row(rows: &mut [u16], tally: Tally, symbol: Symbol, left: u16, right: u16
 // Evaluates a node at a place of the document, with the rows of the parameters: its operands, left before right, then what
 // it does with their rows.
 fn evaluate(
-    plan: &[u16; 3598],
+    plan: &Plan,
     node: usize,
     place: usize,
     first: u16,
@@ -172,7 +173,7 @@ fn evaluate(
 
 // Ends the evaluation of a node whose operands are evaluated: an output symbol adds its row, a call calls its procedure.
 fn apply(
-    plan: &[u16; 3598],
+    plan: &Plan,
     here: Node,
     place: usize,
     first: u16,
@@ -202,7 +203,7 @@ fn apply(
 // Calls a procedure at a place of the document, with the rows of its parameters. The call is counted before its rule is
 // sought: past the last call it is of no account whether there is one.
 fn call(
-    plan: &[u16; 3598],
+    plan: &Plan,
     procedure: Procedure,
     place: usize,
     first: u16,
@@ -254,7 +255,7 @@ fn end_with(before: Tally, outcome: Outcome) -> Ended
 }
 
 // Calls procedure 0 on the whole document: how it ends, and the tally brought forward.
-fn start(plan: &[u16; 3598], rows: &mut [u16], tally: Tally) -> Ended
+fn start(plan: &Plan, rows: &mut [u16], tally: Tally) -> Ended
     requires { ⌜ CallableIn (now plan) 0 0 × (length (now rows) ≤ 12288) ⌝ }
     ensures { λ r. ⌜ StartsIn (now (plan .entry)) (now (rows .entry)) tally r (now (rows .exit)) ⌝ }
 {
@@ -263,7 +264,7 @@ fn start(plan: &[u16; 3598], rows: &mut [u16], tally: Tally) -> Ended
 }
 
 // The same with the tally lent: it goes forward by value, and what comes back is stored.
-fn start_lent<'a, 'b, 'c>(plan: &'a [u16; 3598], rows: &'b mut [u16], tally: &'c mut Tally) -> End
+fn start_lent<'a, 'b, 'c>(plan: &'a Plan, rows: &'b mut [u16], tally: &'c mut Tally) -> End
     requires { ⌜ CallableIn (now plan) 0 0 × (length (now rows) ≤ 12288) ⌝ }
     ensures { λ r. ⌜ StartsIn (now (plan .entry)) (now (rows .entry)) (now (tally .entry)) (record { tally = now (tally .exit); end = r }) (now (rows .exit)) ⌝ }
 {
@@ -273,7 +274,7 @@ fn start_lent<'a, 'b, 'c>(plan: &'a [u16; 3598], rows: &'b mut [u16], tally: &'c
 }
 
 // The same with a tally of its own, lent to the work and read when it is back.
-fn start_anew<'a, 'b>(plan: &'a [u16; 3598], rows: &'b mut [u16]) -> Ended
+fn start_anew<'a, 'b>(plan: &'a Plan, rows: &'b mut [u16]) -> Ended
     requires { ⌜ CallableIn (now plan) 0 0 × (length (now rows) ≤ 12288) ⌝ }
     ensures { λ r. ⌜ StartsIn (now (plan .entry)) (now (rows .entry)) (record { used = 0; calls = 0 }) r (now (rows .exit)) ⌝ }
 {

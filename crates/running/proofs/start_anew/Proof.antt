@@ -44,6 +44,7 @@ use denote.Triple.Spec.{Meets, tripleOf}
 use denote.Triple.Table.{entered, cited}
 use denote.Exit.{yes}
 use denote.Triple.Walked.{says, needs, Stays, stay-dropped, gave-slice, walkOf, AllGo, goes-dropped, goes-gave-slice, Walks, ends-at, walked, walk-meets}
+use Rattle.plans.specs.Plans.{planLength}
 use Rattle.running.specs.declared.Tally.{Tally}
 use Rattle.running.specs.declared.End.{End}
 use Rattle.running.specs.declared.Ended.{Ended}
@@ -65,7 +66,7 @@ use Rattle.running.proofs.start_anew.Statement as stated
 use Rattle.running.proofs.start_anew.Code as code
 
 abbrev stayed : Stays (start-anew.ended .signature .params) (start-anew.ended .kept)
-stayed = (stay-dropped (shrRefTo (0 ∷ []) tt (arrayOf (plain (λ _. u16)) 3598)) yes, (gave-slice (1 ∷ []) tt (plain (λ _. u16)), tt))
+stayed = (stay-dropped (shrRefTo (0 ∷ []) tt (arrayOf (plain (λ _. u16)) planLength)) yes, (gave-slice (1 ∷ []) tt (plain (λ _. u16)), tt))
 
 abbrev Lent : {M : Type 1} (𝓤 : URA M) (H : Heap 𝓤) (A : Atoms 𝓤) (mem′ : Memory → SProp 𝓤) (run : Routine → Fun 𝓤) → Contract 𝓤
 Lent 𝓤 H A mem′ run = tripleOf 𝓤 H A start-lent.signature (start-lent.spec 𝓤 H A mem′ run)
@@ -175,7 +176,7 @@ module _ {M : Type 1} (𝓤 : URA M) (H : Heap 𝓤) (A : Atoms 𝓤) (W : Given
       (λ κs qs bounds a g are. needs 𝓤 (Asked (a .0 .now) (a .1 .0 .now)) _ (λ asked. walk 𝓤 H A W at-mem run (κs .0) (κs .1 .0) (qs .0) (qs .1 .0) (a .0) (a .1 .0 .ptr .0) (a .1 .0 .ptr .1) (a .1 .0 .name) (a .1 .0 .now) asked C Λ fm known (are .1 .0 .0 .1)))
 
   goes : AllGo 𝓤 H A W 2 (start-anew.signature .params) (start-anew.ended .kept) stayed
-  goes = (goes-dropped 𝓤 H A W 2 (shrRefTo (0 ∷ []) tt (arrayOf (plain (λ _. u16)) 3598)) yes (λ κs x f. refl), (goes-gave-slice 𝓤 H A W 2 1 tt (plain (λ _. u16)), tt))
+  goes = (goes-dropped 𝓤 H A W 2 (shrRefTo (0 ∷ []) tt (arrayOf (plain (λ _. u16)) planLength)) yes (λ κs x f. refl), (goes-gave-slice 𝓤 H A W 2 1 tt (plain (λ _. u16)), tt))
 
 anew-meets : {M : Type 1} (𝓤 : URA M) (H : Heap 𝓤) (A : Atoms 𝓤) → Given 𝓤 H A → (at-mem : Memory → SProp 𝓤) (run : Routine → Fun 𝓤) (𝓣 : Tables 𝓤 H) → Triple 𝓤 (𝓣 .C #running·start-lent) (Lent 𝓤 H A at-mem run)
     → Meets 𝓤 H A start-anew.signature (WpFn 𝓤 H (𝓣 .C) (𝓣 .Λ) code.function) (start-anew.spec 𝓤 H A at-mem run)

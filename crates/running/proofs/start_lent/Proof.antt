@@ -41,6 +41,7 @@ use denote.Triple.Spec.{Meets, tripleOf}
 use denote.Triple.Table.{entered, cited}
 use denote.Exit.{yes}
 use denote.Triple.Walked.{says, needs, Stays, stay-ref, stay-dropped, gave-slice, walkOf, AllGo, goes-ref, goes-dropped, goes-gave-slice, Walks, ends-at, walked, walk-meets}
+use Rattle.plans.specs.Plans.{planLength}
 use Rattle.running.specs.declared.Tally.{Tally}
 use Rattle.running.specs.declared.Ended.{Ended}
 use Rattle.running.specs.Contracts.{StartsIn}
@@ -61,7 +62,7 @@ use Rattle.running.proofs.start_lent.Statement as stated
 use Rattle.running.proofs.start_lent.Code as code
 
 abbrev stayed : Stays (start-lent.ended .signature .params) (start-lent.ended .kept)
-stayed = (stay-dropped (shrRefTo (0 ∷ []) tt (arrayOf (plain (λ _. u16)) 3598)) yes, (gave-slice (1 ∷ []) tt (plain (λ _. u16)), (stay-ref (2 ∷ []) tt (plain (λ _. T.the-row)), tt)))
+stayed = (stay-dropped (shrRefTo (0 ∷ []) tt (arrayOf (plain (λ _. u16)) planLength)) yes, (gave-slice (1 ∷ []) tt (plain (λ _. u16)), (stay-ref (2 ∷ []) tt (plain (λ _. T.the-row)), tt)))
 
 abbrev Start : {M : Type 1} (𝓤 : URA M) (H : Heap 𝓤) (A : Atoms 𝓤) (mem′ : Memory → SProp 𝓤) (run : Routine → Fun 𝓤) → Contract 𝓤
 Start 𝓤 H A mem′ run = tripleOf 𝓤 H A start.signature (start.spec 𝓤 H A mem′ run)
@@ -145,7 +146,7 @@ module _ {M : Type 1} (𝓤 : URA M) (H : Heap 𝓤) (A : Atoms 𝓤) (W : Given
       (λ κs qs bounds a g are. needs 𝓤 (Asked (a .0 .now) (a .1 .0 .now)) _ (λ asked. walk 𝓤 H A W at-mem run (κs .0) (κs .1 .0) (κs .1 .1 .0) (qs .0) (qs .1 .0) (qs .1 .1 .0) (a .0) (a .1 .0 .ptr .0) (a .1 .0 .ptr .1) (a .1 .0 .name) (a .1 .0 .now) (a .1 .1 .0 .ptr .0) (a .1 .1 .0 .ptr .1) (a .1 .1 .0 .name) (a .1 .1 .0 .now) asked C Λ fm known (are .1 .0 .0 .1)))
 
   goes : AllGo 𝓤 H A W 3 (start-lent.signature .params) (start-lent.ended .kept) stayed
-  goes = (goes-dropped 𝓤 H A W 3 (shrRefTo (0 ∷ []) tt (arrayOf (plain (λ _. u16)) 3598)) yes (λ κs x f. refl), (goes-gave-slice 𝓤 H A W 3 1 tt (plain (λ _. u16)), (goes-ref 𝓤 H A W 3 2 tt (plain (λ _. T.the-row)), tt)))
+  goes = (goes-dropped 𝓤 H A W 3 (shrRefTo (0 ∷ []) tt (arrayOf (plain (λ _. u16)) planLength)) yes (λ κs x f. refl), (goes-gave-slice 𝓤 H A W 3 1 tt (plain (λ _. u16)), (goes-ref 𝓤 H A W 3 2 tt (plain (λ _. T.the-row)), tt)))
 
 lent-meets : {M : Type 1} (𝓤 : URA M) (H : Heap 𝓤) (A : Atoms 𝓤) → Given 𝓤 H A → (at-mem : Memory → SProp 𝓤) (run : Routine → Fun 𝓤) (𝓣 : Tables 𝓤 H) → Triple 𝓤 (𝓣 .C #running·start) (Start 𝓤 H A at-mem run)
     → Meets 𝓤 H A start-lent.signature (WpFn 𝓤 H (𝓣 .C) (𝓣 .Λ) code.function) (start-lent.spec 𝓤 H A at-mem run)
