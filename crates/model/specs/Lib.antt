@@ -8,6 +8,7 @@ pub mod Expressions
 pub mod Answers
 pub mod Admission
 pub mod Outputs
+pub mod Published
 pub mod Facts
 pub mod Kinds
 pub mod Rounds
