@@ -9,7 +9,7 @@ use native.Mathlib.Omega.{arith}
 use lib.ListN.{length, getD, length-map, List·getD-map}
 use lib.Seq.{ext-getD}
 use Rattle.model.specs.Trees.{Tree, empty, node}
-use Rattle.model.specs.Tables.{Contract, Transformation, ruleAt, ruleCount, countOf}
+use Rattle.model.specs.Tables.{Contract, Transformation, ruleAt, countOf}
 use Rattle.model.specs.Expressions.{Child, left, right, Expression, parameter, nothing, symbol, call, Arguments, none, argument, greatestParameter, greatestOfAll}
 use Rattle.model.specs.Outputs.{Algebra, ChildOf, left-of, right-of, Gives, by-rule, Makes, of-parameter, of-nothing, of-symbol, of-call, MakesAll, of-none, of-argument, trees, Output}
 use Rattle.model.specs.Claims.{Admitted}
