@@ -14,3 +14,4 @@ pub mod Runs
 pub mod Faults
 pub mod Verdicts
 pub mod Refusals
+pub mod Judgements
