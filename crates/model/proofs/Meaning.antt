@@ -1,6 +1,7 @@
--- What the answers mean: facts are the states of outputs, a kind says which trees break a contract, and a check's answers
--- speak of all trees.
+-- What the answers mean: outputs are those of the published meaning, facts are the states of outputs, a kind says which trees break a
+-- contract, a check's answers speak of all trees, and refusals say what is wrong and where.
 pub mod Outputs
+pub mod Published
 pub mod Facts
 pub mod Readings
 pub mod Kinds
@@ -10,3 +11,7 @@ pub mod Checks
 pub mod AcceptMarks
 pub mod Demand
 pub mod Runs
+pub mod Faults
+pub mod Verdicts
+pub mod Refusals
+pub mod Judgements

@@ -1,5 +1,5 @@
--- Document 01, sentence by sentence. Each definition quotes the words that it stands for; theorems about them are in
--- the crates above.
+-- Document 01, sentence by sentence. Each definition quotes the words that it stands for. Published has source document 000's
+-- meaning; Refusals, Meaning and Demand have the statements that proofs/ proves.
 pub mod Trees
 pub mod Documents
 pub mod Rows
@@ -8,6 +8,7 @@ pub mod Expressions
 pub mod Answers
 pub mod Admission
 pub mod Outputs
+pub mod Published
 pub mod Facts
 pub mod Kinds
 pub mod Rounds
@@ -15,6 +16,7 @@ pub mod Judging
 pub mod Checking
 pub mod Running
 pub mod WritingOut
+pub mod Refusals
 pub mod Claims
 pub mod Meaning
 pub mod Demand

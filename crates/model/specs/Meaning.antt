@@ -1,7 +1,7 @@
 -- What the answers of judging, checking and running mean for all trees, as statements. proofs/Meaning proves them.
 use mathlib.Core.Path.{_≡_}
 use mathlib.Core.Bool.{false}
-use mathlib.Core.List.{List, []}
+use mathlib.Core.List.{List, [], _∷_}
 use mathlib.Core.Logic.{_↔_}
 use Prim.Native.Nat.{ℕ, suc, _*_, _<_, _≤_}
 use lib.Dec.{T}
@@ -10,13 +10,15 @@ use Rattle.model.specs.Trees.{Tree, height, Over}
 use Rattle.model.specs.Documents.{documentTree}
 use Rattle.model.specs.Rows.{rowCount, treeAt}
 use Rattle.model.specs.Tables.{Contract}
-use Rattle.model.specs.Answers.{Answer, tree, pass, refusal}
+use Rattle.model.specs.Answers.{Answer, judged, tree, pass, refusal}
 use Rattle.model.specs.Kinds.{emptyKind, kindOf, breaks}
 use Rattle.model.specs.Rounds.{kindAutomaton, ListedKind, kindAt, rounds}
+use Rattle.model.specs.Judging.{judging}
 use Rattle.model.specs.Checking.{greatestLimit, Checked, standing, checking}
 use Rattle.model.specs.Outputs.{Output}
 use Rattle.model.specs.Running.{mostCalls, running}
-use Rattle.model.specs.Claims.{Takes, Breaks}
+use Rattle.model.specs.Refusals.{DocumentOf, judgingReasons, Refuses}
+use Rattle.model.specs.Claims.{Takes, Breaks, Admitted}
 
 -- the trees that a contract speaks of: those over its symbols
 abbrev pub TreeOf : Contract → Tree → Type 0
@@ -27,6 +29,27 @@ pub record Judges (C : Contract) (t : Tree) (result : ℕ) : Type 0 where
   pub zero : (result ≡ 0) ↔ (Takes C t → ⊥)
   pub one : (result ≡ 1) ↔ (Takes C t × (Breaks C t → ⊥))
   pub two : (result ≡ 2) ↔ Breaks C t
+
+-- when judging gives a result, and which: "Otherwise the kind is written and the result is 0, .. 1, .. 2"
+pub record JudgedMeans (C : Contract) (numbers buffer : List ℕ) (result : ℕ) : Type 0 where
+  pub isAdmitted : Admitted C
+  pub fiveWords : length buffer ≡ 5
+  pub document : Tree
+  pub isDocument : DocumentOf (C .transformation .symbols) numbers document
+  pub judges : Judges C document result
+
+pub data JudgedOrRefused (answer : Answer) : Type 0 where
+  is-judged : (result : ℕ) → answer ≡ judged result → JudgedOrRefused answer
+  is-refused : (number place : ℕ) → answer ≡ refusal number place → JudgedOrRefused answer
+
+-- what the answer and the closing words of judging say of the numbers handed in; of a refusal see `OperationRefusals`
+pub record JudgingMeans (C : Contract) (numbers buffer : List ℕ) : Type 0 where
+  pub judgedOrRefused : JudgedOrRefused (judging C numbers buffer .answer)
+  pub judgedExactly : (result : ℕ) → (judging C numbers buffer .answer ≡ judged result) ↔ JudgedMeans C numbers buffer result
+  pub kindWritten : (result : ℕ) → judging C numbers buffer .answer ≡ judged result
+      → (t : Tree) → DocumentOf (C .transformation .symbols) numbers t → judging C numbers buffer .words ≡ kindOf C t
+  pub refuses : Refuses (judgingReasons C numbers buffer) (λ number place. judging C numbers buffer .answer ≡ refusal number place) (buffer ∷ [])
+      (judging C numbers buffer .words ∷ [])
 
 -- lists, read with a default that no statement depends on: no entry stands twice; an entry stands there
 pub record AllDiffer {A : Type 0} (default : A) (entries : List A) : Type 0 where

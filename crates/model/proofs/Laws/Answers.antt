@@ -2,6 +2,7 @@
 -- far their numbers go.
 use mathlib.Core.Path.{_≡_, refl, sym, _∙_}
 use mathlib.Core.Bool.{Bool, true, false}
+use mathlib.Core.Logic.{_⊎_, inl, inr}
 use Prim.Native.Nat.{ℕ, _<_, _≤_}
 use native.Mathlib.Omega.{arith}
 use borrow.Author.Tests.{ltb-false, lt-ltb, le-ltb}
@@ -51,6 +52,21 @@ refuse-if-passed test number place e = rw e
 pub refuse-if-refused : (test : Bool) (number place : ℕ) → test ≡ true → refuseIf test number place ≡ refused number place
 unfolding refuseIf
 refuse-if-refused test number place e = rw e
+
+-- what a test that refuses says
+pub refuse-if-told : (test : Bool) (number place n p : ℕ) → refuseIf test number place ≡ refused n p → (test ≡ true) × (place ≡ p)
+unfolding refuseIf
+refuse-if-told true number place n p e = (refl, cc)
+refuse-if-told false number place n p e = absurd (refused-not-fine n p (sym e))
+
+-- a verdict that can refuse with one number only
+abbrev pub Only : ℕ → Verdict → Type 0
+Only number v = (v ≡ fine) ⊎ ((place : ℕ) × (v ≡ refused number place))
+
+pub refuse-if-only : (test : Bool) (number place : ℕ) → Only number (refuseIf test number place)
+unfolding refuseIf
+refuse-if-only true number place = inr (place, refl)
+refuse-if-only false number place = inl refl
 
 module _ (number : ℕ) (bad : ℕ → Bool) (n : ℕ) where
   -- no entry is bad

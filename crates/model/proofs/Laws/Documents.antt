@@ -259,7 +259,7 @@ one-tree S n xs h r = go (forest (take n xs)) refl (r .count) (r .numbers) (r .o
     go (t ∷ []) e c p o = record { within = h; over = rw e (o .0); numbers = rw e (sym (append-nil (preorder t)) ∙ p) }
     go (t ∷ u ∷ ts) e c p o = absurd (omega arith)
 
-leading-reads : (S n : ℕ) (xs : List ℕ) → leading S xs ≡ ends n → (n ≤ length xs) × Reads S 1 (take n xs)
+pub leading-reads : (S n : ℕ) (xs : List ℕ) → leading S xs ≡ ends n → (n ≤ length xs) × Reads S 1 (take n xs)
 unfolding leading
 leading-reads S n xs e =
     let k = taken S xs 1 0 n e in
@@ -406,9 +406,9 @@ whole-document S xs h e =
     }
 
 -- a document whose leading tree ends has no number after it
-whole-fine : (S : ℕ) (xs : List ℕ) (l : Leading) → leading S xs ≡ l → wholeTree (length xs) l ≡ fine → leading S xs ≡ ends (length xs)
+pub whole-fine : (S : ℕ) (xs : List ℕ) (l : Leading) → leading S xs ≡ l → wholeTree (length xs) l ≡ fine → leading S xs ≡ ends (length xs)
 unfolding wholeTree
-whole-fine S xs (faulty at) e f = absurd (refused-not-fine 12 at f)
+whole-fine S xs (faulty at) e f = absurd (refused-not-fine 12 _ f)
 whole-fine S xs (ends at) e f =
     let n : at ≡ length xs = omega (arith, ltb-false at (length xs) (refuse-if-fine _ _ _ f), leading-ends S at xs e .within) in
     e ∙ ap ends n

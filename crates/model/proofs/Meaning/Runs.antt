@@ -27,6 +27,7 @@ use Rattle.model.specs.Admission.{admission}
 use Rattle.model.specs.Rows.{Row, rowAt, rowCount, treeAt}
 use Rattle.model.specs.Facts.{onSide}
 use Rattle.model.specs.Running.{Work, Step, made, refused, _after_, mostCalls, addRow, countCall, seekRule, Runs, noRuns, evaluate, evaluateAll, runAt, runOn, run, Ran, closing, runningVerdict, running}
+use Rattle.model.specs.Refusals.{DocumentOf}
 use Rattle.model.specs.Meaning.{RunRefusal, no-rule, no-row, too-many-calls, RanOutput, RunRefused}
 use Rattle.model.proofs.Laws.Rules.{firstRule, first-fits}
 use Rattle.model.proofs.Laws.Rows.{tree-empty, tree-node, tree-append}
@@ -34,6 +35,7 @@ use Rattle.model.proofs.Laws.Answers.{then-fine}
 use Rattle.model.proofs.Laws.Admitted.{established}
 use Rattle.model.proofs.Laws.Expressions.{expression-parameter, expression-nothing, expression-symbol, expression-call}
 use Rattle.model.proofs.Laws.Established.{GoodNode, good-parameter, good-nothing, good-symbol, good-call, Established}
+use Rattle.model.proofs.Meaning.Verdicts.{fine-document}
 
 -- Expressions that a run can follow: parameters that are there, inner symbols, as many arguments as parameters
 unfoldable pub argumentCount : Arguments → ℕ
@@ -415,6 +417,19 @@ module _ (C : Contract) (numbers buffer : List ℕ) (root used : ℕ) where
           let (admitted, rest) = then-fine (admission C) _ e in
           let ends : running C numbers buffer ≡ closing (length buffer) (run (C .transformation) (rowCount buffer) (documentTree numbers)) = rw e in
           closing-output (established C admitted) (run (C .transformation) (rowCount buffer) (documentTree numbers)) refl ends (sym (ap (λ (r : Ran). r .answer) ends) ∙ answer)
+
+-- .. where the document is the tree whose numbers were handed in
+pub running-document : (C : Contract) (numbers buffer : List ℕ) (root used : ℕ) → running C numbers buffer .answer ≡ ran root used
+    → DocumentOf (C .transformation .symbols) numbers (documentTree numbers)
+unfolding running runningVerdict given
+running-document C numbers buffer root used answer = go (runningVerdict C numbers buffer) refl
+  where
+    go : (v : Verdict) → runningVerdict C numbers buffer ≡ v → DocumentOf (C .transformation .symbols) numbers (documentTree numbers)
+    go (answers.refused number place) e = absurd (let a : refusal number place ≡ ran root used = rw e at answer in let z : _≡_ {A = ℕ} 0 1 = cc in omega arith)
+    go fine e =
+        let (good, rest) = then-fine (admission C) _ e in
+        let (room, read) = then-fine _ _ rest in
+        fine-document (C .transformation .symbols) numbers read
 
 -- "Whichever comes first in that order of work is given, and the buffer is then all 0."
 pub running-refusal : (C : Contract) (numbers buffer : List ℕ) (number place : ℕ) → runningVerdict C numbers buffer ≡ fine

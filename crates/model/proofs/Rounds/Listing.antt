@@ -6,7 +6,8 @@ use mathlib.Core.Bool.{Bool, true, false}
 use Prim.Native.Nat.{ℕ, zero, suc, _+_, _-_, _<_, _≤_}
 use native.Mathlib.Nat.{add-zero, zero-add, suc-add, add-suc}
 use native.Mathlib.Omega.{arith}
-use borrow.Author.Tests.{eqb-true, eqb-false}
+use native.Mathlib.Decide.{ℕ-discrete}
+use borrow.Author.Tests.{eqb-true, eqb-false, eq-eqb, ne-eqb}
 use lib.Dec.{eqb}
 use lib.ListN.{length}
 use Rattle.model.specs.Rounds.{TreeAutomaton, Listed, round, rounds, listingFrom, listing}
@@ -60,16 +61,27 @@ module _ (A : TreeAutomaton) where
       go (inl e) = e
       go (inr k) = absurd (omega arith)
 
-  -- the early end of a listing changes nothing
+  -- a listing goes on after a round that adds a row, and ends where a round adds none
+  listing-goes-on : (k : ℕ) (rows : List (Listed A)) → (length (round A rows) ≡ length rows → ⊥)
+      → listingFrom A (suc k) rows ≡ listingFrom A k (round A rows)
+  unfolding listingFrom
+  listing-goes-on k rows adds = rw (ne-eqb, listingFrom)
+
+  listing-ends : (k : ℕ) (rows : List (Listed A)) → length (round A rows) ≡ length rows → listingFrom A (suc k) rows ≡ rows
+  unfolding listingFrom
+  listing-ends k rows adds-none = rw (eq-eqb, listingFrom)
+
+  -- so its early end changes nothing
   listing-after : (k h : ℕ) → listingFrom A k (rounds A h) ≡ rounds A (k + h)
   unfolding listingFrom rounds
   listing-after zero h = rw zero-add
-  listing-after (suc k) h = go (eqb (length (round A (rounds A h))) (length (rounds A h))) refl (listing-after k (suc h))
+  listing-after (suc k) h = go (ℕ-discrete (length (round A (rounds A h))) (length (rounds A h))) (listing-after k (suc h))
     where
-      go : (b : Bool) → eqb (length (round A (rounds A h))) (length (rounds A h)) ≡ b → listingFrom A k (rounds A (suc h)) ≡ rounds A (k + suc h)
+      go : Dec (length (round A (rounds A h)) ≡ length (rounds A h)) → listingFrom A k (rounds A (suc h)) ≡ rounds A (k + suc h)
           → listingFrom A (suc k) (rounds A h) ≡ rounds A (suc k + h)
-      go true q more = rw (q, listingFrom) (sym (ended-stays h (suc k + h) (adds-nothing (rounds A h) (eqb-true _ _ q)) (omega arith)))
-      go false q more = rw (q, listingFrom) (more ∙ ap (λ (n : ℕ). rounds A n) (add-suc k h ∙ sym (suc-add k h)))
+      go (yes same) more =
+          listing-ends k (rounds A h) same ∙ sym (ended-stays h (suc k + h) (adds-nothing (rounds A h) same) (omega arith))
+      go (no differ) more = listing-goes-on k (rounds A h) differ ∙ more ∙ ap (λ (n : ℕ). rounds A n) (add-suc k h ∙ sym (suc-add k h))
 
   pub listing-rounds : (h : ℕ) → listing A h ≡ rounds A h
   unfolding listing rounds

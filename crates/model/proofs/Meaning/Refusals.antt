@@ -1,0 +1,129 @@
+-- The answers of the five operations: each refuses for its verdict's reasons, and writes nothing then.
+use mathlib.Core.Path.{_≡_, refl, ap, ap₂, sym, _∙_}
+use mathlib.Core.List.{List, [], _∷_}
+use mathlib.Core.Logic.{inl, inr}
+use Prim.Native.Nat.{ℕ, _≤_}
+use native.Mathlib.Omega.{arith}
+use Rattle.model.specs.Tables.{Contract}
+use Rattle.model.specs.Answers.{Verdict, fine, refused, Answer, judged, tree, pass, written, refusal, given}
+use Rattle.model.specs.Admission.{admission, admit}
+use Rattle.model.specs.Judging.{Judged, judgingVerdict, judging}
+use Rattle.model.specs.Checking.{Checked, standing, check, checkingVerdict, checking}
+use Rattle.model.specs.Running.{Ran, runningVerdict, running}
+use Rattle.model.specs.WritingOut.{Written, writingVerdict, writingOut}
+use Rattle.model.specs.Meaning.{RunRefusal, no-rule, no-row, too-many-calls}
+use Rattle.model.specs.Refusals.{Reason, FirstReason, RefusesFor, checkingReasons, runningReasons, Refuses, OperationRefusals}
+use Rattle.model.proofs.Laws.Answers.{refusal-admits-nothing, given-fine, given-refused}
+use Rattle.model.proofs.Rounds.Stopping.{Ending, shows, passes, stops, check-ends}
+use Rattle.model.proofs.Meaning.Runs.{running-refusal}
+use Rattle.model.proofs.Meaning.Verdicts.{admission-refusals, judging-refusals, checking-refusals, running-refusals, writing-refusals}
+
+-- each reason's number is at most k
+abbrev NumbersTo : ℕ → List Reason → Type 0
+NumbersTo k [] = Unit {0}
+NumbersTo k (r ∷ rs) = (r .number ≤ k) × NumbersTo k rs
+
+first-number : (k : ℕ) (rs : List Reason) (number place : ℕ) → NumbersTo k rs → FirstReason rs number place → number ≤ k
+first-number k [] number place small f = absurd f
+first-number k (r ∷ rs) number place small (inl (e, wrong)) = omega (arith, small .0)
+first-number k (r ∷ rs) number place small (inr (right, f)) = first-number k rs number place (small .1) f
+
+-- an operation r that gives its verdict's refusal, with the buffers as they were lent, or else a, which is no refusal of these numbers
+module _ {R : Type 0} (r : R) (v : Verdict) (onRefusal : ℕ → ℕ → R) (a : R) (gives : r ≡ given v onRefusal a) (answer : R → Answer)
+    (buffers : R → List (List ℕ)) (lent : List (List ℕ))
+    (refusing : (number place : ℕ) → (answer (onRefusal number place) ≡ refusal number place) × (buffers (onRefusal number place) ≡ lent)) where
+  refused-gives : (number place : ℕ) → v ≡ refused number place → r ≡ onRefusal number place
+  refused-gives number place e = gives ∙ given-refused onRefusal a v number place e
+
+  told : (number place : ℕ) → (v ≡ fine → answer r ≡ refusal number place → ⊥) → answer r ≡ refusal number place → v ≡ refused number place
+  told number place never e = go v refl
+    where
+      go : (w : Verdict) → v ≡ w → v ≡ refused number place
+      go fine f = absurd (never f e)
+      go (refused m q) f =
+          let same : refusal m q ≡ refusal number place = sym (refusing m q .0) ∙ ap answer (sym (refused-gives m q f)) ∙ e in
+          let em : m ≡ number = cc in
+          let eq : q ≡ place = cc in
+          f ∙ ap₂ refused em eq
+
+  module _ (reasons : List Reason) (for : RefusesFor reasons v) where
+    -- where Early says which numbers are meant
+    early-refuses : (Early : ℕ → Type 0) → ((number place : ℕ) → FirstReason reasons number place → Early number)
+        → ((number place : ℕ) → v ≡ fine → answer r ≡ refusal number place → Early number → ⊥)
+        → Refuses reasons (λ number place. (answer r ≡ refusal number place) × Early number) lent (buffers r)
+    early-refuses Early early never =
+        record {
+          exactly = λ number place. (
+            λ (e, small). for .refuses number place .0 (told number place (λ f g. never number place f g small) e),
+            λ f. (ap answer (refused-gives number place (for .refuses number place .1 f)) ∙ refusing number place .0, early number place f),
+          );
+          nothingWritten = λ number place (e, small).
+              ap buffers (refused-gives number place (told number place (λ f g. never number place f g small) e)) ∙ refusing number place .1;
+        }
+
+    all-refuse : ((number place : ℕ) → answer a ≡ refusal number place → ⊥)
+        → Refuses reasons (λ number place. answer r ≡ refusal number place) lent (buffers r)
+    all-refuse never =
+        let early = early-refuses (λ number. Unit {0}) (λ number place f. tt) (λ number place f e one. never number place (sym (ap answer (gives ∙ given-fine onRefusal a v f)) ∙ e)) in
+        record {
+          exactly = λ number place. (λ e. early .exactly number place .0 (e, tt), λ f. early .exactly number place .1 f .0);
+          nothingWritten = λ number place e. early .nothingWritten number place (e, tt);
+        }
+
+-- what is no refusal
+tree-no-refusal : {j number place : ℕ} → tree j ≡ refusal number place → ⊥
+tree-no-refusal e = let z : _≡_ {A = ℕ} 0 1 = cc in omega arith
+
+pass-no-refusal : {n number place : ℕ} → pass n ≡ refusal number place → ⊥
+pass-no-refusal e = let z : _≡_ {A = ℕ} 0 1 = cc in omega arith
+
+judged-no-refusal : {result number place : ℕ} → judged result ≡ refusal number place → ⊥
+judged-no-refusal e = let z : _≡_ {A = ℕ} 0 1 = cc in omega arith
+
+written-no-refusal : {n number place : ℕ} → written n ≡ refusal number place → ⊥
+written-no-refusal e = let z : _≡_ {A = ℕ} 0 1 = cc in omega arith
+
+-- a check that is let in refuses by 10 only
+check-refuses-late : (C : Contract) (L number place : ℕ) → check C L .answer ≡ refusal number place → number ≤ 9 → ⊥
+unfolding standing
+check-refuses-late C L number place e small = go (check-ends C L)
+  where
+    go : Ending C L (check C L) → ⊥
+    go (shows j l i b n f) = tree-no-refusal (sym (ap (λ (c : Checked). c .answer) f) ∙ e)
+    go (passes d l n f) = pass-no-refusal (sym (ap (λ (c : Checked). c .answer) f) ∙ e)
+    go (stops l n f) =
+        let said : refusal 10 L ≡ refusal number place = sym (ap (λ (c : Checked). c .answer) f) ∙ e in
+        let ten : 10 ≡ number = cc in
+        omega arith
+
+-- and a run by 13 to 15
+run-refuses-late : {procedures free number place : ℕ} → RunRefusal procedures free number place → number ≤ 12 → ⊥
+run-refuses-late (no-rule e l) small = omega arith
+run-refuses-late (no-row e l) small = omega arith
+run-refuses-late (too-many-calls e l) small = omega arith
+
+pub operation-refusals : OperationRefusals
+unfolding admit judging checking running writingOut
+operation-refusals =
+    record {
+      ofAdmission = λ C.
+          all-refuse (admit C) (admission C) _ _ refl (λ a. a) (λ a. []) [] (λ n p. (refl, refl)) _ (admission-refusals C)
+          (λ n p e. refusal-admits-nothing n p (sym e));
+      ofJudging = λ C numbers buffer.
+          all-refuse (judging C numbers buffer) (judgingVerdict C numbers buffer) _ _ refl (λ (j : Judged). j .answer) (λ (j : Judged). j .words ∷ [])
+          (buffer ∷ []) (λ n p. (refl, refl)) _ (judging-refusals C numbers buffer) (λ n p e. judged-no-refusal e);
+      ofChecking = λ C L rows words.
+          early-refuses (checking C L rows words) (checkingVerdict C L rows words) _ _ refl (λ (c : Checked). c .answer)
+          (λ (c : Checked). c .rows ∷ c .words ∷ []) (rows ∷ words ∷ []) (λ n p. (refl, refl)) _ (checking-refusals C L rows words) (λ n. n ≤ 9)
+          (λ n p f. first-number 9 (checkingReasons C L rows words) n p (omega arith) f)
+          (λ n p f e small. check-refuses-late C L n p (sym (ap (λ (c : Checked). c .answer) (given-fine _ _ _ f)) ∙ e) small);
+      ofRunning = λ C numbers buffer.
+          early-refuses (running C numbers buffer) (runningVerdict C numbers buffer) _ _ refl (λ (r : Ran). r .answer) (λ (r : Ran). r .rows ∷ [])
+          (buffer ∷ []) (λ n p. (refl, refl)) _ (running-refusals C numbers buffer) (λ n. n ≤ 12)
+          (λ n p f. first-number 12 (runningReasons C numbers buffer) n p (omega arith) f)
+          (λ n p f e small. run-refuses-late (running-refusal C numbers buffer n p f e .reason) small);
+      ofWritingOut = λ rows row buffer.
+          all-refuse (writingOut rows row buffer) (writingVerdict rows row buffer) _ _ refl (λ (w : Written). w .answer)
+          (λ (w : Written). w .numbers ∷ []) (buffer ∷ []) (λ n p. (refl, refl)) _ (writing-refusals rows row buffer)
+          (λ n p e. written-no-refusal e);
+    }

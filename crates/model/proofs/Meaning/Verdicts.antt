@@ -1,0 +1,239 @@
+-- The verdicts of the operations refuse for the reasons that document 01 lists, the first that applies, at its place. What holds of
+-- verdicts one after another, and of a search, is shown once.
+use mathlib.Core.Path.{_≡_, refl, ap, sym, subst, _∙_}
+use mathlib.Core.Bool.{Bool, true, not, true≢false}
+use mathlib.Core.List.{List, [], _∷_, _++_}
+use mathlib.Core.Logic.{_↔_, _⊎_, inl, inr}
+use Prim.Native.Nat.{ℕ, _<_, _≤_}
+use native.Mathlib.Omega.{arith}
+use native.Mathlib.Decide.{decLt}
+use borrow.Author.Tests.{ltb-true, lt-ltb, leb-true, le-leb, eq-eqb, ne-eqb}
+use lib.Dec.{ltb, eqb}
+use lib.ListN.{length}
+use Rattle.foundation.specs.Search.{first, first-at, first-before, first-hit}
+use Rattle.model.specs.Trees.{preorder}
+use Rattle.model.specs.Tables.{Contract}
+use Rattle.model.specs.Rows.{rowCount, treeAt}
+use Rattle.model.specs.Answers.{Verdict, fine, refused, refuseIf, refuseFirst, _then_}
+use Rattle.model.specs.Admission.{mostFacts, sizes, lengths, inputRows, entries, counts, nodes, rules, facts, admission}
+use Rattle.model.specs.Documents.{mostNumbers, document, documentTree}
+use Rattle.model.specs.Judging.{judgingVerdict}
+use Rattle.model.specs.Checking.{checkingVerdict}
+use Rattle.model.specs.Running.{rowsWrong, runningVerdict}
+use Rattle.model.specs.WritingOut.{writingVerdict}
+use Rattle.model.specs.Refusals.{Reason, FirstReason, NoReason, RefusesFor, LowestPlace, lowest, only, Fault, documentReasons, DocumentOf, DocumentVerdict, admissionReasons, judgingReasons, checkingReasons, runningReasons, writingReasons}
+use Rattle.model.proofs.Laws.Answers.{refused-not-fine, Only, refuse-if-told, refuse-if-only, refuse-if-refused, refuse-first-at}
+use Rattle.model.proofs.Laws.Admitted.{established}
+use Rattle.model.proofs.Laws.Documents.{over-proper, read-back, document-fine, document-preorder}
+use Rattle.model.proofs.Meaning.Faults.{whole-only, fault-exactly}
+
+-- Reasons one behind another
+
+module _ (ss : List Reason) (number place : ℕ) where
+  first-front : (rs : List Reason) → FirstReason rs number place → FirstReason (rs ++ ss) number place
+  first-front [] f = absurd f
+  first-front (r ∷ rs) (inl wrong) = inl wrong
+  first-front (r ∷ rs) (inr (right, f)) = inr (right, first-front rs f)
+
+  first-behind : (rs : List Reason) → NoReason rs → FirstReason ss number place → FirstReason (rs ++ ss) number place
+  first-behind [] none f = f
+  first-behind (r ∷ rs) none f = inr (none .0, first-behind rs (none .1) f)
+
+  first-apart : (rs : List Reason) → FirstReason (rs ++ ss) number place
+      → FirstReason rs number place ⊎ (NoReason rs × FirstReason ss number place)
+  first-apart [] f = inr (tt, f)
+  first-apart (r ∷ rs) (inl wrong) = inl (inl wrong)
+  first-apart (r ∷ rs) (inr (right, f)) = go (first-apart rs f)
+    where
+      go : FirstReason rs number place ⊎ (NoReason rs × FirstReason ss number place)
+          → FirstReason (r ∷ rs) number place ⊎ (NoReason (r ∷ rs) × FirstReason ss number place)
+      go (inl g) = inl (inr (right, g))
+      go (inr (none, g)) = inr ((right, none), g)
+
+none-both : (rs ss : List Reason) → NoReason (rs ++ ss) ↔ (NoReason rs × NoReason ss)
+none-both [] ss = (λ none. (tt, none), λ both. both .1)
+none-both (r ∷ rs) ss =
+    let rest = none-both rs ss in (
+      λ none. let both = rest .0 (none .1) in ((none .0, both .0), both .1),
+      λ both. (both .0 .0, rest .1 (both .0 .1, both .1)),
+    )
+
+-- one verdict after another: what the second refuses for matters where the first is fine
+then-for : (v w : Verdict) (rs ss : List Reason) → RefusesFor rs v → (v ≡ fine → RefusesFor ss w) → RefusesFor (rs ++ ss) (v then w)
+unfolding _then_
+then-for fine w rs ss of-v of-w =
+    let none : NoReason rs = of-v .passes .0 refl in
+    record {
+      refuses = λ number place. (
+        λ e. first-behind ss number place rs none (of-w refl .refuses number place .0 e),
+        λ f. of-w refl .refuses number place .1 (behind number place (first-apart ss number place rs f)),
+      );
+      passes = (λ e. none-both rs ss .1 (none, of-w refl .passes .0 e), λ f. of-w refl .passes .1 (none-both rs ss .0 f .1));
+    }
+  where
+    behind : (number place : ℕ) → FirstReason rs number place ⊎ (NoReason rs × FirstReason ss number place) → FirstReason ss number place
+    behind number place (inl f) = absurd (refused-not-fine number place (sym (of-v .refuses number place .1 f)))
+    behind number place (inr (none, f)) = f
+then-for (refused m q) w rs ss of-v of-w =
+    record {
+      refuses = λ number place. (
+        λ e. first-front ss number place rs (of-v .refuses number place .0 e),
+        λ f. front number place (first-apart ss number place rs f),
+      );
+      passes = (λ e. absurd (refused-not-fine m q e), λ f. absurd (stopped (none-both rs ss .0 f .0)));
+    }
+  where
+    stopped : NoReason rs → ⊥
+    stopped none = refused-not-fine m q (of-v .passes .1 none)
+
+    front : (number place : ℕ) → FirstReason rs number place ⊎ (NoReason rs × FirstReason ss number place) → refused m q ≡ refused number place
+    front number place (inl f) = of-v .refuses number place .1 f
+    front number place (inr (none, f)) = absurd (stopped none)
+
+-- a single verdict
+one-for : (v : Verdict) (r : Reason) → Only (r .number) v → ((place : ℕ) → (v ≡ refused (r .number) place) ↔ r .Wrong place)
+    → RefusesFor (r ∷ []) v
+one-for v r which exactly =
+    record {
+      refuses = λ number place. (λ e. to number place e which, λ f. from number place f);
+      passes = (λ e. (λ place wrong. refused-not-fine (r .number) place (sym (exactly place .1 wrong) ∙ e), tt), λ none. clear none which);
+    }
+  where
+    to : (number place : ℕ) → v ≡ refused number place → Only (r .number) v → FirstReason (r ∷ []) number place
+    to number place e (inl f) = absurd (refused-not-fine number place (sym e ∙ f))
+    to number place e (inr (q, f)) =
+        let same : number ≡ r .number = (let x : refused number place ≡ refused (r .number) q = sym e ∙ f in cc) in
+        inl (same, exactly place .0 (e ∙ ap (λ (n : ℕ). refused n place) same))
+
+    from : (number place : ℕ) → FirstReason (r ∷ []) number place → v ≡ refused number place
+    from number place (inl (same, wrong)) = exactly place .1 wrong ∙ ap (λ (n : ℕ). refused n place) (sym same)
+    from number place (inr (right, nothing)) = absurd nothing
+
+    clear : NoReason (r ∷ []) → Only (r .number) v → v ≡ fine
+    clear none (inl e) = e
+    clear none (inr (q, e)) = absurd (none .0 q (exactly q .0 e))
+
+-- a test, with its one place
+only-for : (test : Bool) (Holds : Type 0) (number place : ℕ) → (test ≡ true) ↔ Holds → RefusesFor (only number Holds place ∷ []) (refuseIf test number place)
+only-for test Holds number place means =
+    one-for _ (only number Holds place) (refuse-if-only test number place)
+    (λ p. (
+      λ e. let (holds, same) = refuse-if-told test number place number p e in (means .0 holds, sym same),
+      λ (holds, same). refuse-if-refused test number place (means .1 holds) ∙ ap (refused number) (sym same),
+    ))
+
+-- a search: "lowest place"
+lowest-for : (number : ℕ) (bad : ℕ → Bool) (n : ℕ) → RefusesFor (lowest number bad n ∷ []) (refuseFirst number bad n)
+unfolding refuseFirst
+lowest-for number bad n =
+    one-for _ (lowest number bad n) (refuse-if-only (ltb (first bad n) n) number (first bad n))
+    (λ place. (
+      λ e.
+          let (test, same) = refuse-if-told (ltb (first bad n) n) number (first bad n) number place e in
+          let found : first bad n < n = ltb-true (first bad n) n test in
+          subst (LowestPlace bad n) same (record { inside = found; isBad = first-hit bad n found; noneBefore = λ j l. first-before bad n j l }),
+      λ p. refuse-first-at number bad n place (sym (first-at bad n place (p .inside) (p .noneBefore) (p .isBad))) (p .inside),
+    ))
+
+-- The operations
+
+less : (m n : ℕ) → (ltb m n ≡ true) ↔ (m < n)
+less m n = (ltb-true m n, lt-ltb m n)
+
+unequal : (m n : ℕ) → (not (eqb m n) ≡ true) ↔ (m ≡ n → ⊥)
+unequal m n = (λ t e. true≢false (sym t ∙ ap not (eq-eqb m n e)), λ differ. ap not (ne-eqb m n differ))
+
+same-test : (test : Bool) → (test ≡ true) ↔ (test ≡ true)
+same-test test = (λ e. e, λ e. e)
+
+-- "11, over 1,023 numbers (the length); 12, the first number not below S or after the tree has ended, or the length if the tree has
+-- not ended"
+pub document-refusals : (S : ℕ) (numbers : List ℕ) → 1 ≤ S → RefusesFor (documentReasons S numbers) (document S numbers)
+unfolding document
+document-refusals S numbers some =
+    then-for _ _ _ _ (only-for _ (mostNumbers < length numbers) 11 (length numbers) (less mostNumbers (length numbers)))
+    (λ few. one-for _ _ (whole-only S numbers some) (fault-exactly S numbers some))
+
+module _ (C : Contract) where
+  -- "Refusals, first that applies, lowest place: 1, ..": admission's eight
+  pub admission-refusals : RefusesFor (admissionReasons C) (admission C)
+  unfolding admission sizes lengths inputRows entries counts nodes rules facts
+  admission-refusals =
+      then-for (sizes C) _ _ _ (lowest-for 1 _ 4) λ e₁.
+      then-for (lengths C) _ _ _ (lowest-for 2 _ 6) λ e₂.
+      then-for (inputRows C) _ _ _ (lowest-for 3 _ _) λ e₃.
+      then-for (entries C) _ _ _ (lowest-for 4 _ _) λ e₄.
+      then-for (counts C) _ _ _ (lowest-for 5 _ _) λ e₅.
+      then-for (nodes C) _ _ _ (lowest-for 6 _ _) λ e₆.
+      then-for (rules C) _ _ _ (lowest-for 7 _ _) λ e₇.
+      only-for _ _ 8 _ (less mostFacts _)
+
+  -- the document of an admitted contract
+  document-of : (numbers : List ℕ) → admission C ≡ fine → RefusesFor (documentReasons (C .transformation .symbols) numbers) (document (C .transformation .symbols) numbers)
+  document-of numbers good = document-refusals (C .transformation .symbols) numbers (established C good .symbols .least≤)
+
+  pub judging-refusals : (numbers buffer : List ℕ) → RefusesFor (judgingReasons C numbers buffer) (judgingVerdict C numbers buffer)
+  unfolding judgingVerdict
+  judging-refusals numbers buffer =
+      then-for (admission C) _ (admissionReasons C) _ admission-refusals λ good.
+      then-for _ _ _ _ (only-for _ (length buffer ≡ 5 → ⊥) 9 0 (unequal (length buffer) 5)) λ five.
+      document-of numbers good
+
+  pub checking-refusals : (L : ℕ) (rowBuffer wordBuffer : List ℕ)
+      → RefusesFor (checkingReasons C L rowBuffer wordBuffer) (checkingVerdict C L rowBuffer wordBuffer)
+  unfolding checkingVerdict
+  checking-refusals L rowBuffer wordBuffer = then-for (admission C) _ (admissionReasons C) _ admission-refusals λ good. lowest-for 9 _ 3
+
+  pub running-refusals : (numbers buffer : List ℕ) → RefusesFor (runningReasons C numbers buffer) (runningVerdict C numbers buffer)
+  unfolding runningVerdict
+  running-refusals numbers buffer =
+      then-for (admission C) _ (admissionReasons C) _ admission-refusals λ good.
+      then-for _ _ _ _ (only-for _ _ 9 0 (same-test (rowsWrong (length buffer)))) λ rows.
+      document-of numbers good
+
+pub writing-refusals : (rows : List ℕ) (row : ℕ) (buffer : List ℕ) → RefusesFor (writingReasons rows row buffer) (writingVerdict rows row buffer)
+unfolding writingVerdict
+writing-refusals rows row buffer =
+    then-for _ _ _ _ (only-for _ _ 16 0 (same-test (rowsWrong (length rows)))) λ e₁.
+    then-for _ _ _ _ (lowest-for 17 _ (rowCount rows)) λ e₂.
+    then-for _ _ _ _ (only-for _ _ 18 row (leb-true (rowCount rows) row, le-leb (rowCount rows) row)) λ e₃.
+    only-for _ _ 19 (length buffer) (less (length buffer) (length (preorder (treeAt rows row))))
+
+-- What is read of numbers
+
+pub fine-document : (S : ℕ) (numbers : List ℕ) → document S numbers ≡ fine → DocumentOf S numbers (documentTree numbers)
+fine-document S numbers e = let d = document-fine S numbers e in record { over = d .over; inPreorder = sym (d .numbers); few = d .few }
+
+pub document-exactly : (S : ℕ) (numbers : List ℕ) → 1 ≤ S → DocumentVerdict S numbers
+document-exactly S numbers some =
+    record {
+      tooLong = λ place. (λ e. long place (of-document .refuses 11 place .0 e), λ h. of-document .refuses 11 place .1 (inl (refl, h)));
+      faulty = λ place. (
+        λ e. misread place (of-document .refuses 12 place .0 e),
+        λ (few, fault). of-document .refuses 12 place .1 (inr (λ p h. omega (arith, h .0), inl (refl, fault))),
+      );
+      whole = (
+        λ e. (documentTree numbers, fine-document S numbers e),
+        λ (t, d).
+            subst (λ (xs : List ℕ). document S xs ≡ fine) (sym (d .inPreorder))
+            (document-preorder S t some (d .over) (subst (λ (xs : List ℕ). length xs ≤ mostNumbers) (d .inPreorder) (d .few))),
+      );
+      read = λ t d. ap documentTree (d .inPreorder) ∙ read-back t (over-proper S t (d .over));
+    }
+  where
+    of-document : RefusesFor (documentReasons S numbers) (document S numbers)
+    of-document = document-refusals S numbers some
+
+    long : (place : ℕ) → FirstReason (documentReasons S numbers) 11 place → (mostNumbers < length numbers) × (place ≡ length numbers)
+    long place (inl (e, h)) = h
+    long place (inr (right, inl (e, fault))) = absurd (omega arith)
+    long place (inr (right, inr (free, nothing))) = absurd nothing
+
+    misread : (place : ℕ) → FirstReason (documentReasons S numbers) 12 place → (length numbers ≤ mostNumbers) × Fault S numbers place
+    misread place (inl (e, h)) = absurd (omega arith)
+    misread place (inr (right, inl (e, fault))) = (not-long (decLt mostNumbers (length numbers)), fault)
+      where
+        not-long : Dec (mostNumbers < length numbers) → length numbers ≤ mostNumbers
+        not-long (yes l) = absurd (right (length numbers) (l, refl))
+        not-long (no l) = omega arith
+    misread place (inr (right, inr (free, nothing))) = absurd nothing

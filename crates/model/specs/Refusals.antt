@@ -1,0 +1,176 @@
+-- What refusals say, as statements: of the reasons that document 01 lists, the first that applies is given, with its place.
+-- proofs/Meaning/Verdicts.antt and Refusals.antt prove them.
+use mathlib.Core.Path.{_≡_}
+use mathlib.Core.Bool.{Bool, true, false}
+use mathlib.Core.List.{List, [], _∷_, _++_}
+use mathlib.Core.Logic.{_↔_, _⊎_}
+use Prim.Native.Nat.{ℕ, _+_, _<_, _≤_}
+use lib.ListN.{length, getD}
+use Rattle.model.specs.Trees.{Tree, Over, preorder}
+use Rattle.model.specs.Tables.{Contract, inputRow, inputRowCount, nodeAt, nodeCount, ruleAt, ruleCount}
+use Rattle.model.specs.Rows.{rowAt, rowCount, treeAt}
+use Rattle.model.specs.Facts.{factTotal}
+use Rattle.model.specs.Answers.{Verdict, fine, refused, refusal}
+use Rattle.model.specs.Admission.{sizeWrong, lengthWrong, inputRowWrong, entryWrong, countWrong, nodeWrong, ruleWrong, mostFacts, admit}
+use Rattle.model.specs.Documents.{mostNumbers, document, documentTree}
+use Rattle.model.specs.Judging.{judging}
+use Rattle.model.specs.Checking.{limitWrong, checking}
+use Rattle.model.specs.Running.{rowsWrong, running}
+use Rattle.model.specs.WritingOut.{rowWrong, writingOut}
+
+-- a reason to refuse: the refusal's number, and what is wrong where it has that place
+pub record Reason : Type 1 where
+  pub number : ℕ
+  pub Wrong : (place : ℕ) → Type 0
+
+-- nothing is wrong
+abbrev pub NothingWrong : Reason → Type 0
+NothingWrong reason = (place : ℕ) → reason .Wrong place → ⊥
+
+-- "Refusals, first that applies": of these reasons, in their order
+abbrev pub FirstReason : List Reason → (number place : ℕ) → Type 0
+FirstReason [] number place = ⊥
+FirstReason (reason ∷ reasons) number place =
+    ((number ≡ reason .number) × reason .Wrong place) ⊎ (NothingWrong reason × FirstReason reasons number place)
+
+abbrev pub NoReason : List Reason → Type 0
+NoReason [] = Unit {0}
+NoReason (reason ∷ reasons) = NothingWrong reason × NoReason reasons
+
+-- a verdict refuses for these reasons and no other
+pub record RefusesFor (reasons : List Reason) (verdict : Verdict) : Type 0 where
+  pub refuses : (number place : ℕ) → (verdict ≡ refused number place) ↔ FirstReason reasons number place
+  pub passes : (verdict ≡ fine) ↔ NoReason reasons
+
+-- "lowest place": of n entries the one there is bad, and none before it
+pub record LowestPlace (bad : ℕ → Bool) (n place : ℕ) : Type 0 where
+  pub inside : place < n
+  pub isBad : bad place ≡ true
+  pub noneBefore : (j : ℕ) → j < place → bad j ≡ false
+
+abbrev pub lowest : ℕ → (ℕ → Bool) → ℕ → Reason
+lowest number bad n = record { number = number; Wrong = LowestPlace bad n }
+
+-- something is wrong, with that one place
+abbrev pub only : ℕ → Type 0 → ℕ → Reason
+only number Holds place = record { number = number; Wrong = λ p. Holds × (p ≡ place) }
+
+-- "the tree has ended": the numbers begin with those of a tree over S, all of them before that place
+pub record EndedBefore (S : ℕ) (numbers : List ℕ) (place : ℕ) : Type 0 where
+  pub tree : Tree
+  pub over : Over S tree
+  pub rest : List ℕ
+  pub begins : numbers ≡ preorder tree ++ rest
+  pub before : length (preorder tree) ≤ place
+
+-- a "number not below S or after the tree has ended"
+pub data Misplaced (S : ℕ) (numbers : List ℕ) (place : ℕ) : Type 0 where
+  no-symbol : S ≤ getD numbers place 0 → Misplaced S numbers place
+  after-tree : EndedBefore S numbers place → Misplaced S numbers place
+
+-- none of the first n numbers is one
+abbrev pub AllPlaced : ℕ → List ℕ → ℕ → Type 0
+AllPlaced S numbers n = (j : ℕ) → j < n → Misplaced S numbers j → ⊥
+
+-- "12, the first number not below S or after the tree has ended, or the length if the tree has not ended"
+pub data Fault (S : ℕ) (numbers : List ℕ) (place : ℕ) : Type 0 where
+  at-number : place < length numbers → Misplaced S numbers place → AllPlaced S numbers place → Fault S numbers place
+  at-end : place ≡ length numbers → AllPlaced S numbers (length numbers) → (EndedBefore S numbers (length numbers) → ⊥) → Fault S numbers place
+
+-- "11, over 1,023 numbers (the length); 12, .."
+abbrev pub documentReasons : ℕ → List ℕ → List Reason
+documentReasons S numbers = only 11 (mostNumbers < length numbers) (length numbers) ∷ record { number = 12; Wrong = Fault S numbers } ∷ []
+
+-- "A document is its symbols in preorder, 1 to 1,023 numbers.": the numbers of a tree over S
+pub record DocumentOf (S : ℕ) (numbers : List ℕ) (tree : Tree) : Type 0 where
+  pub over : Over S tree
+  pub inPreorder : numbers ≡ preorder tree
+  pub few : length numbers ≤ mostNumbers
+
+-- what is read of numbers: 11, 12, or a document, and which tree it is
+pub record DocumentVerdict (S : ℕ) (numbers : List ℕ) : Type 0 where
+  pub tooLong : (place : ℕ) → (document S numbers ≡ refused 11 place) ↔ ((mostNumbers < length numbers) × (place ≡ length numbers))
+  pub faulty : (place : ℕ) → (document S numbers ≡ refused 12 place) ↔ ((length numbers ≤ mostNumbers) × Fault S numbers place)
+  pub whole : (document S numbers ≡ fine) ↔ ((tree : Tree) × DocumentOf S numbers tree)
+  pub read : (tree : Tree) → DocumentOf S numbers tree → documentTree numbers ≡ tree
+
+module _ (C : Contract) where
+  -- "Refusals, first that applies, lowest place"
+  abbrev pub admissionReasons : List Reason
+  admissionReasons =
+      -- "1, a size out of range (place 0 to 3: symbols, input states, output states, procedures)"
+      lowest 1 (sizeWrong (C .transformation .symbols) (C .input .states) (C .output .states) (length (C .transformation .counts))) 4
+      -- "2, a table's length (place 0 to 5: input rows, input marks, output table, output marks, nodes, rules)"
+      ∷ lowest 2
+      (lengthWrong (C .transformation .symbols) (C .input .states) (C .output .states) (length (C .input .rows)) (length (C .input .marks))
+      (length (C .output .table))
+      (length (C .output .marks))
+      (length (C .transformation .nodes))
+      (length (C .transformation .rules)))
+      6
+      -- "3, a bad input row (row)"
+      ∷ lowest 3 (λ r. inputRowWrong (C .transformation .symbols) (C .input .states) (inputRow (C .input .rows) r)) (inputRowCount (C .input .rows))
+      -- "4, a mark above 1 or an output entry not below O (index through input marks, output table, output marks laid end to end)"
+      ∷ lowest 4 (entryWrong (C .output .states) (C .input .marks) (C .output .table) (C .output .marks))
+      (length (C .input .marks) + length (C .output .table) + length (C .output .marks))
+      -- "5, a parameter count above 2, or procedure 0 with parameters (procedure)"
+      ∷ lowest 5 (countWrong (C .transformation .counts)) (length (C .transformation .counts))
+      -- "6, a bad node (node)"
+      ∷ lowest 6 (λ n. nodeWrong (C .transformation .symbols) (C .transformation .counts) n (nodeAt (C .transformation .nodes) n))
+      (nodeCount (C .transformation .nodes))
+      -- "7, a bad rule (rule)"
+      ∷ lowest 7
+      (λ r. ruleWrong (C .transformation .symbols) (C .transformation .counts) (C .transformation .nodes) (ruleAt (C .transformation .rules) r))
+      (ruleCount (C .transformation .rules))
+      -- "8, over 256 facts (the total)"
+      ∷ only 8 (mostFacts < factTotal (C .output .states) (C .transformation .counts)) (factTotal (C .output .states) (C .transformation .counts))
+      ∷ []
+
+  -- "1 to 8; then 9, the kind buffer is not five words (place 0); 11, ..; 12, .."
+  abbrev pub judgingReasons : (numbers buffer : List ℕ) → List Reason
+  judgingReasons numbers buffer = admissionReasons ++ (only 9 (length buffer ≡ 5 → ⊥) 0 ∷ documentReasons (C .transformation .symbols) numbers)
+
+  -- "1 to 8; then 9, the limit L is not 1 to 512, the row buffer not 3 × L numbers, or the word buffer not 5 × L words (place
+  -- 0, 1, 2)"
+  abbrev pub checkingReasons : ℕ → (rowBuffer wordBuffer : List ℕ) → List Reason
+  checkingReasons L rowBuffer wordBuffer = admissionReasons ++ (lowest 9 (limitWrong C L (length rowBuffer) (length wordBuffer)) 3 ∷ [])
+
+  -- "1 to 8; 9, the row buffer's length is no multiple of three or above 12,288 (place 0); 11; 12"
+  abbrev pub runningReasons : (numbers buffer : List ℕ) → List Reason
+  runningReasons numbers buffer =
+      admissionReasons ++ (only 9 (rowsWrong (length buffer) ≡ true) 0 ∷ documentReasons (C .transformation .symbols) numbers)
+
+-- "16, the length is no multiple of three or above 12,288 (place 0). 17, the first row with .. (that row). 18, the row number is too
+-- large (that number). 19, the tree has more numbers than the buffer (place the buffer's length)."
+abbrev pub writingReasons : (rows : List ℕ) (row : ℕ) (buffer : List ℕ) → List Reason
+writingReasons rows row buffer =
+    only 16 (rowsWrong (length rows) ≡ true) 0
+    ∷ lowest 17 (λ k. rowWrong k (rowAt rows k)) (rowCount rows)
+    ∷ only 18 (rowCount rows ≤ row) row
+    ∷ only 19 (length buffer < length (preorder (treeAt rows row))) (length buffer)
+    ∷ []
+
+-- an operation refuses for these reasons, the first that applies, and "these write nothing": the buffers are as they were lent
+pub record Refuses (reasons : List Reason) (Answers : (number place : ℕ) → Type 0) (lent closing : List (List ℕ)) : Type 0 where
+  pub exactly : (number place : ℕ) → Answers number place ↔ FirstReason reasons number place
+  pub nothingWritten : (number place : ℕ) → Answers number place → closing ≡ lent
+
+-- "a refusal carries a number and a place and leaves the lent buffers as document 01 states": the refusals of the five operations,
+-- but for checking's 10 and running's 13 to 15, which come of the work itself
+pub record OperationRefusals : Type 0 where
+  pub ofAdmission : (C : Contract) → Refuses (admissionReasons C) (λ number place. admit C ≡ refusal number place) [] []
+  pub ofJudging : (C : Contract) (numbers buffer : List ℕ)
+      → Refuses (judgingReasons C numbers buffer) (λ number place. judging C numbers buffer .answer ≡ refusal number place) (buffer ∷ [])
+      (judging C numbers buffer .words ∷ [])
+  pub ofChecking : (C : Contract) (L : ℕ) (rowBuffer wordBuffer : List ℕ)
+      → Refuses (checkingReasons C L rowBuffer wordBuffer)
+      (λ number place. (checking C L rowBuffer wordBuffer .answer ≡ refusal number place) × (number ≤ 9))
+      (rowBuffer ∷ wordBuffer ∷ [])
+      (checking C L rowBuffer wordBuffer .rows ∷ checking C L rowBuffer wordBuffer .words ∷ [])
+  pub ofRunning : (C : Contract) (numbers buffer : List ℕ)
+      → Refuses (runningReasons C numbers buffer) (λ number place. (running C numbers buffer .answer ≡ refusal number place) × (number ≤ 12))
+      (buffer ∷ [])
+      (running C numbers buffer .rows ∷ [])
+  pub ofWritingOut : (rows : List ℕ) (row : ℕ) (buffer : List ℕ)
+      → Refuses (writingReasons rows row buffer) (λ number place. writingOut rows row buffer .answer ≡ refusal number place) (buffer ∷ [])
+      (writingOut rows row buffer .numbers ∷ [])
