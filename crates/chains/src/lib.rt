@@ -1,14 +1,58 @@
-// The rules of each symbol and its input rows, once for a contract, in chains: the table of lists names the first of each
-// symbol, and after each one the next of its symbol.
+// The table of lists: how it is read, and the rules and the input rows of each symbol, put into it once for a contract, in
+// chains: the table names the first of each symbol, and after each one the next of its symbol.
 ghost use mathlib.Core.Path.{_≡_};
 ghost use Prim.Native.Nat.{ℕ, _+_, _<_, _≤_};
 ghost use lib.ListN.{length, getD, set};
 ghost use Rattle.model.specs.Tables.{inputRow, inputRowCount, ruleAt, ruleCount};
+ghost use Rattle.kind_words.specs.Kind.{listLength, listOf};
 ghost use Rattle.chains.specs.Chaining.{Emptied, Chaining};
 use lanes::place;
+use lanes::place_at;
 use tables::Symbol;
 use tables::input_row_at;
 use tables::rule_at;
+
+// The list of the symbol: the nodes that its rules reach.
+pub fn list_of(lists: &[u16], symbol: Symbol) -> &[u16]
+    requires { ⌜ (symbol .0 < 16) × (32 ≤ length (now lists)) × (getD (now lists) (symbol .0) 0 + listLength (now lists) (symbol .0) ≤ length (now lists)) ⌝ }
+    ensures { λ r. ⌜ now r ≡ listOf (now (lists .entry)) (symbol .0) ⌝ }
+{
+    let start = place_at(lists, symbol.0 as usize);
+    let end = start + place_at(lists, 16 + symbol.0 as usize);
+    &lists[start..end]
+}
+
+// The first rule of the symbol.
+pub fn first_rule(lists: &[u16], symbol: Symbol) -> usize
+    requires { ⌜ (symbol .0 < 16) × (64 ≤ length (now lists)) ⌝ }
+    ensures { λ r. ⌜ r ≡ getD (now (lists .entry)) (32 + symbol .0) 0 ⌝ }
+{
+    place_at(lists, 32 + symbol.0 as usize)
+}
+
+// The rule after rule r in its chain.
+pub fn rule_after(lists: &[u16], r: usize) -> usize
+    requires { ⌜ 64 + r < length (now lists) ⌝ }
+    ensures { λ k. ⌜ k ≡ getD (now (lists .entry)) (64 + r) 0 ⌝ }
+{
+    place_at(lists, 64 + r)
+}
+
+// The first input row of the symbol.
+pub fn first_row(lists: &[u16], symbol: Symbol) -> usize
+    requires { ⌜ (symbol .0 < 16) × (64 ≤ length (now lists)) ⌝ }
+    ensures { λ r. ⌜ r ≡ getD (now (lists .entry)) (48 + symbol .0) 0 ⌝ }
+{
+    place_at(lists, 48 + symbol.0 as usize)
+}
+
+// The input row after row r in its chain; what follows the rows stands from a place on.
+pub fn row_after(lists: &[u16], nexts: usize, r: usize) -> usize
+    requires { ⌜ nexts + r < length (now lists) ⌝ }
+    ensures { λ k. ⌜ k ≡ getD (now (lists .entry)) (nexts + r) 0 ⌝ }
+{
+    place_at(lists, nexts + r)
+}
 
 // From where on the table of lists has the row after each input row.
 pub fn rows_from(rules: &[u16]) -> usize

@@ -32,6 +32,36 @@ module _ (symbolOf : ℕ → ℕ) (n : ℕ) where
     pub first : (s : ℕ) → s < 16 → NextFrom s from (getD table (firsts + s) 0)
     pub next : (r : ℕ) → from ≤ r → r < n → NextFrom (symbolOf r) (r + 1) (getD table (nexts + r) 0)
 
+  -- a walk along a chain that started at number `from` and has come to r: what it has gathered fits every symbol whose first
+  -- number is `from`
+  pub record Walk (Fits : ℕ → Type 0) (from r : ℕ) : Type 0 where
+    pub most : r ≤ n
+    pub own : (s : ℕ) → NextFrom s 0 from → r < n → symbolOf r ≡ s
+    pub fits : (s : ℕ) → NextFrom s 0 from → Fits s
+
+  module _ {firsts nexts : ℕ} {table : List ℕ} (chained : Chained firsts nexts 0 table) where
+    pub walk-starts : {Fits : ℕ → Type 0} (s k : ℕ) → s < 16 → k ≡ getD table (firsts + s) 0 → ((t : ℕ) → NextFrom t 0 k → Fits t) → Walk Fits k k
+    walk-starts s k l e start =
+        record { most = rw e (chained .first s l .most); own = λ t is. is .passed; fits = start }
+
+    pub walk-goes : {Fits Fits′ : ℕ → Type 0} {from r : ℕ} (k : ℕ) → Walk Fits from r → r < n → k ≡ getD table (nexts + r) 0
+        → ((s : ℕ) → symbolOf r ≡ s → Fits s → NextFrom s (r + 1) k → Fits′ s)
+        → Walk Fits′ from k
+    walk-goes {r = r} k walk l e step =
+        let next : NextFrom (symbolOf r) (r + 1) k = rw e (chained .next r (omega arith) l) in
+        record {
+          most = next .most;
+          own = λ s is m. next .passed m ∙ walk .own s is l;
+          fits = λ s is. let o = walk .own s is l in step s o (walk .fits s is) (rw o at next);
+        }
+
+    -- it goes forward
+    pub walk-less : (r k : ℕ) → r < n → k ≡ getD table (nexts + r) 0 → r < k
+    walk-less r k l e = let next : NextFrom (symbolOf r) (r + 1) k = rw e (chained .next r (omega arith) l) in omega (arith, next .after)
+
+    pub walk-ends : {Fits : ℕ → Type 0} {from r : ℕ} → Walk Fits from r → (s : ℕ) → s < 16 → from ≡ getD table (firsts + s) 0 → Fits s
+    walk-ends walk s l e = walk .fits s (rw e (chained .first s l))
+
   -- the join over the chain of symbol s, where the numbers of other symbols give nothing
   module _ (s : ℕ) (g : ℕ → ℕ) (nothing : (j : ℕ) → (symbolOf j ≡ s → ⊥) → 0 ≡ g j) where
     or-passed : (r k : ℕ) → NextFrom s r k → orTo g r ≡ orTo g k

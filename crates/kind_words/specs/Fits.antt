@@ -5,7 +5,7 @@ use Prim.Native.Nat.{ℕ, suc, _+_, _*_, _-_, _^_, _<_, _≤_}
 use native.Mathlib.Nat.{pow-le-pow-right, mul-le-mul-right, one-le-pow}
 use native.Mathlib.Omega.{arith}
 use lib.ListN.{length, getD}
-use Rattle.model.specs.Tables.{Contract, contract, inputRow, inputRowCount, Node, nodeAt, nodeCount, ruleAt, ruleCount, countOf}
+use Rattle.model.specs.Tables.{Contract, inputRow, inputRowCount, Node, nodeAt, nodeCount, ruleAt, ruleCount, countOf}
 use Rattle.model.specs.Admission.{tableLength}
 use Rattle.model.proofs.Laws.Established.{Established, GoodNode, good-parameter, good-nothing, good-symbol, good-call}
 use Rattle.kind_words.specs.Lanes.{Laid}
@@ -45,13 +45,13 @@ pub record NodesFit (lay : Layout) (offsets counts table nodes : List ℕ) : Typ
   pub fewNodes : nodeCount nodes ≤ 256
   pub node : (n : ℕ) → n < nodeCount nodes → GoodNode symbols counts n (nodeAt nodes n)
 
--- the rules, where there are words for so many nodes
-pub record RulesFit (lay : Layout) (offsets counts rules : List ℕ) (room : ℕ) : Type 0 where
+-- the rules
+pub record RulesFit (lay : Layout) (offsets counts rules : List ℕ) : Type 0 where
   pub layout : LayoutFits lay
   pub procedures : length counts ≤ 16
   pub procedure : (p : ℕ) → p < length counts → ProcedureFits lay (countOf counts p) (getD offsets p 0)
   pub isProcedure : (r : ℕ) → r < ruleCount rules → ruleAt rules r .procedure < length counts
-  pub isNode : (r : ℕ) → r < ruleCount rules → ruleAt rules r .node < room
+  pub isNode : (r : ℕ) → r < ruleCount rules → ruleAt rules r .node < 256
 
 -- the input rows
 pub record RowsFit (rows : List ℕ) : Type 0 where
@@ -121,75 +121,69 @@ module _ {lay : Layout} {offsets counts table nodes : List ℕ} (fit : NodesFit 
       go (good-symbol t a b c d) = absurd (omega arith)
       go (good-call t a b c d) = (λ l. omega (arith, c l), λ l. omega (arith, d l))
 
--- a contract that these tables are prepared for: its sizes and marks stand in no promise on kinds
-pub record Ready (lay : Layout) (offsets lists counts rows table nodes rules : List ℕ) : Type 0 where
-  pub symbols : ℕ
-  pub inputStates : ℕ
-  pub inputMarks : List ℕ
-  pub outputMarks : List ℕ
-  pub prepared : Prepared (contract symbols inputStates (lay .states) counts rows inputMarks table outputMarks nodes rules) lay offsets lists
-
-module _ {lay : Layout} {offsets lists counts rows table nodes rules : List ℕ}
-    (ready : Ready lay offsets lists counts rows table nodes rules) where
-  abbrev C : Contract
-  C = contract (ready .symbols) (ready .inputStates) (lay .states) counts rows (ready .inputMarks) table (ready .outputMarks) nodes rules
-
+-- a prepared contract has all this
+module _ {C : Contract} {lay : Layout} {offsets lists : List ℕ} (prepared : Prepared C lay offsets lists) where
   abbrev known : Established C
-  known = ready .prepared .established
+  known = prepared .established
+
+  abbrev counts′ : List ℕ
+  counts′ = C .transformation .counts
 
   layout-fits : LayoutFits lay
   layout-fits =
+      let width = prepared .layout .width in
+      let states = prepared .layout .states in
       record {
         laid =
             record {
               sized =
                   record {
-                    some = rw (ready .prepared .layout .width) (one-le-pow (ready .prepared .layout .greatest) (lay .states) (known .outputStates .least≤));
+                    some = rw width (one-le-pow (prepared .layout .greatest) (C .output .states) (known .outputStates .least≤));
                     fit =
-                        rw (ready .prepared .layout .width)
-                        (lanes-fit (lay .states) (ready .prepared .layout .greatest) (known .outputStates .least≤) (known .outputStates .≤most) (ready .prepared .layout .most));
+                        rw (states, width)
+                        (lanes-fit (C .output .states) (prepared .layout .greatest) (known .outputStates .least≤) (known .outputStates .≤most) (prepared .layout .most));
                   };
-              lane = rw (ready .prepared .layout .width) (ready .prepared .layout .lanes .lane);
-              firsts = rw (ready .prepared .layout .width) (ready .prepared .layout .lanes .firsts);
+              lane = rw width (prepared .layout .lanes .lane);
+              firsts = rw (states, width) (prepared .layout .lanes .firsts);
             };
-        some = known .outputStates .least≤;
-        few = known .outputStates .≤most;
+        some = rw states (known .outputStates .least≤);
+        few = rw states (known .outputStates .≤most);
       }
 
-  procedure-fits : (p : ℕ) → p < length counts → ProcedureFits lay (countOf counts p) (getD offsets p 0)
+  procedure-fits : (p : ℕ) → p < length counts′ → ProcedureFits lay (countOf counts′ p) (getD offsets p 0)
   procedure-fits p h =
       record {
         layout = layout-fits;
         parameters = known .count p;
-        narrow = rw (ready .prepared .layout .width) (pow-le-pow-right (known .outputStates .least≤) (ready .prepared .layout .bound p));
-        inside = rw (ready .prepared .place p h) (offset-inside C known p h);
+        narrow = rw (prepared .layout .states, prepared .layout .width) (pow-le-pow-right (known .outputStates .least≤) (prepared .layout .bound p));
+        inside = rw (prepared .place p h) (offset-inside C known p h);
       }
 
-  pub nodes-fit : NodesFit lay offsets counts table nodes
+  pub nodes-fit : NodesFit lay offsets counts′ (C .output .table) (C .transformation .nodes)
   nodes-fit =
       record {
-        symbols = ready .symbols;
+        symbols = C .transformation .symbols;
         layout = layout-fits;
         fewSymbols = known .symbols .≤most;
-        tableLong = known .outputTable;
-        entry = known .outputEntry;
+        tableLong = rw (prepared .layout .states) (known .outputTable);
+        entry = rw (prepared .layout .states) (known .outputEntry);
         procedures = known .procedures .≤most;
         procedure = procedure-fits;
         fewNodes = known .nodes .few;
         node = known .node;
       }
 
-  pub rules-fit : (room : ℕ) → nodeCount nodes ≤ room → RulesFit lay offsets counts rules room
-  rules-fit room most =
+  pub rules-fit : RulesFit lay offsets counts′ (C .transformation .rules)
+  rules-fit =
       record {
         layout = layout-fits;
         procedures = known .procedures .≤most;
         procedure = procedure-fits;
         isProcedure = λ r h. known .rule r h .procedure;
-        isNode = λ r h. omega (arith, known .rule r h .node);
+        isNode = λ r h. omega (arith, known .rule r h .node, known .nodes .few);
       }
 
-  pub rows-fit : RowsFit rows
+  pub rows-fit : RowsFit (C .input .rows)
   rows-fit =
       record {
         state = λ r h. omega (arith, known .inputRow r h .state, known .inputStates .≤most);

@@ -8,7 +8,8 @@ use native.Mathlib.Omega.{arith}
 use native.Mathlib.Decide.{ℕ-discrete}
 use borrow.Author.Tests.{eq-eqb, ne-eqb}
 use lib.Pow.{pow-mono, pow-add}
-use lib.ListN.{length, getD, set, replicate}
+use lib.ListN.{length, getD, set, replicate, take, drop, length-take, length-drop}
+use lib.Seq.{getD-take, getD-drop}
 use lib.Bits.{bitOr, or-zero-r}
 use Rattle.foundation.specs.Words.{bit, word, word-cong}
 use Rattle.foundation.specs.TestLaws.{same-yes, same-no}
@@ -24,7 +25,7 @@ use Rattle.kind_words.specs.Lanes.{Lanes, lanes-eq}
 use Rattle.kind_words.specs.Blocks.{narrowed-lanes, Holds, block-holds, nothing-holds, Words}
 use Rattle.kind_words.specs.Nodes.{LanesAre, NodeIs}
 use Rattle.kind_words.specs.Called.{OffsetsIn, Narrow}
-use Rattle.kind_words.specs.Listed.{Layout, nodeStep, filledTo, Before, ListOf, StepsFrom, layout, filled-is, done-at}
+use Rattle.kind_words.specs.Listed.{Layout, wordsOn, AreNodes, filledTo, filled-same, Before, ListOf, StepsFrom, layout, step, filled-is, done-at}
 use Rattle.kind_words.specs.Chains.{Chained}
 use Rattle.kind_words.specs.Rules.{ruleBlock, withRule, withRules, placed, allFacts, all-facts-bit, block-is}
 use Rattle.kind_words.specs.States.{rowStates, states-are}
@@ -45,10 +46,27 @@ listLength lists s = getD lists (16 + s) 0
 abbrev pub listed : List ℕ → ℕ → ℕ → ℕ
 listed lists s i = getD lists (getD lists s 0 + i) 0
 
+-- the list of symbol s
+abbrev pub listOf : List ℕ → ℕ → List ℕ
+listOf lists s = take (listLength lists s) (drop (getD lists s 0) lists)
+
+module _ (lists : List ℕ) (s : ℕ) (inside : getD lists s 0 + listLength lists s ≤ length lists) where
+  pub list-length : length (listOf lists s) ≡ listLength lists s
+  list-length = simp (length-take, length-drop) (omega arith)
+
+  pub list-at : (i : ℕ) → i < listLength lists s → getD (listOf lists s) i 0 ≡ listed lists s i
+  list-at i h = rw (getD-take, getD-drop)
+
+  pub list-of-nodes : {counts nodes : List ℕ} → ListOf counts nodes (listed lists s) (listLength lists s) → AreNodes nodes (listOf lists s)
+  list-of-nodes is i h = let l : i < listLength lists s = omega (arith, list-length) in rw (list-at i l) (is .isNode i l)
+
+  words-on-list : (step : List ℕ → ℕ → ℕ) (before : List ℕ)
+      → filledTo step (λ i. getD (listOf lists s) i 0) before (length (listOf lists s)) ≡ filledTo step (listed lists s) before (listLength lists s)
+  words-on-list step before = rw list-length (filled-same step _ _ before (listLength lists s) list-at)
+
 -- the words of the nodes that the rules for s reach
 abbrev pub nodeWords : Layout → (offsets lists counts table nodes before : List ℕ) (s : ℕ) (leftKind rightKind : List ℕ) → List ℕ
-nodeWords lay offsets lists counts table nodes before s leftKind rightKind =
-    filledTo (λ (words : List ℕ) (n : ℕ). nodeStep lay offsets counts table nodes leftKind rightKind words n) (listed lists s) before (listLength lists s)
+nodeWords lay offsets lists counts table nodes before s leftKind rightKind = wordsOn lay offsets counts table nodes leftKind rightKind (listOf lists s) before
 
 -- the facts of the rules for s
 abbrev pub ruleFacts : Layout → (offsets counts rules : List ℕ) (s : ℕ) (words : List ℕ) → List ℕ
@@ -61,16 +79,13 @@ kindForm lay offsets lists counts rows table nodes rules before s leftKind right
     (rowStates rows s (getD leftKind 0 0) (getD rightKind 0 0) (inputRowCount rows))
 
 -- .. step by step
-pub kind-steps : (lay : Layout) (offsets lists counts rows table nodes rules before : List ℕ) (s : ℕ) (leftKind rightKind : List ℕ) (start n place states : ℕ) (words kind : List ℕ)
-    → place ≡ s
-    → start ≡ getD lists place 0
-    → n ≡ listLength lists place
-    → words ≡ filledTo (λ (w : List ℕ) (k : ℕ). nodeStep lay offsets counts table nodes leftKind rightKind w k) (λ (i : ℕ). getD lists (start + i) 0) before n
+pub kind-steps : (lay : Layout) (offsets lists counts rows table nodes rules before : List ℕ) (s : ℕ) (leftKind rightKind : List ℕ) (states : ℕ) (words kind : List ℕ)
+    → words ≡ nodeWords lay offsets lists counts table nodes before s leftKind rightKind
     → kind ≡ ruleFacts lay offsets counts rules s words
     → states ≡ rowStates rows s (getD leftKind 0 0) (getD rightKind 0 0) (inputRowCount rows)
     → set kind 0 states ≡ kindForm lay offsets lists counts rows table nodes rules before s leftKind rightKind
 unfolding kindForm
-kind-steps lay offsets lists counts rows table nodes rules before s leftKind rightKind start n place states words kind ep eb en ew ek es = rw (es, ek, ew, en, eb, ep)
+kind-steps lay offsets lists counts rows table nodes rules before s leftKind rightKind states words kind ew ek es = rw (es, ek, ew)
 
 -- how the words of a contract with those output states and parameter counts are laid out: a lane has a bit for each
 -- assignment of the greatest count of parameters
@@ -245,6 +260,9 @@ module _ (C : Contract) (lay : Layout) (offsets lists : List ℕ) (prepared : Pr
     abbrev words′ : List ℕ
     words′ = nodeWords lay′ offsets lists (C .transformation .counts) (C .output .table) (C .transformation .nodes) before s l r
 
+    abbrev step′ : List ℕ → ℕ → ℕ
+    step′ = step C K l r offsets (lay .ones) (lay .starts) (lay .first) (lay .second)
+
     abbrev block′ : ℕ → ℕ
     block′ i = ruleBlock lay′ (C .transformation .counts) (C .transformation .rules) words′ i
 
@@ -252,13 +270,17 @@ module _ (C : Contract) (lay : Layout) (offsets lists : List ℕ) (prepared : Pr
     node-is : (i : ℕ) → i < ruleCount (C .transformation .rules) → ruleAt (C .transformation .rules) i .symbol ≡ s
         → NodeIs (C .transformation) (C .output) facts′ K (ruleAt (C .transformation .rules) i .node) (getD words′ (ruleAt (C .transformation .rules) i .node) 0)
     node-is i hi e =
-        done-at C K l r offsets (lay .ones) (lay .starts) (lay .first) (lay .second) from (listed lists s) words′ (listLength lists s) _
+        rw (words-on-list lists s (prepared .lists .inside s hs) step′ before)
+        (done-at C K l r offsets (lay .ones) (lay .starts) (lay .first) (lay .second) from (listed lists s)
+        (filledTo step′ (listed lists s) before (listLength lists s))
+        (listLength lists s)
+        _
         (filled-is C K l r offsets (lay .ones) (lay .starts) (lay .first) (lay .second) from (listed lists s) before (listLength lists s)
         (prepared .lists .list s hs)
         long
         (listLength lists s)
         (omega arith))
-        (subst (λ (x : ℕ). Before (listed lists x) (listLength lists x) (ruleAt (C .transformation .rules) i .node)) e (prepared .lists .onList i hi))
+        (subst (λ (x : ℕ). Before (listed lists x) (listLength lists x) (ruleAt (C .transformation .rules) i .node)) e (prepared .lists .onList i hi)))
 
     uses-few : (i : ℕ) → i < ruleCount (C .transformation .rules)
         → Rattle.model.specs.Expressions.greatestParameter (rightSide (C .transformation) i) ≤ countOf (C .transformation .counts) (ruleAt (C .transformation .rules) i .procedure)

@@ -76,6 +76,15 @@ unfoldable pub filledTo : (step : List ℕ → ℕ → ℕ) (list : ℕ → ℕ)
 filledTo step list words zero = words
 filledTo step list words (suc i) = set (filledTo step list words i) (list i) (step (filledTo step list words i) (list i))
 
+-- the words of the nodes on a list, where `before` is what the words were
+abbrev pub wordsOn : Layout → (offsets counts table nodes leftKind rightKind list before : List ℕ) → List ℕ
+wordsOn lay offsets counts table nodes leftKind rightKind list before =
+    filledTo (λ (words : List ℕ) (n : ℕ). nodeStep lay offsets counts table nodes leftKind rightKind words n) (λ (i : ℕ). getD list i 0) before (length list)
+
+-- a list of nodes
+abbrev pub AreNodes : (nodes list : List ℕ) → Type 0
+AreNodes nodes list = (i : ℕ) → i < length list → getD list i 0 < nodeCount nodes
+
 pub filled-none : (step : List ℕ → ℕ → ℕ) (list : ℕ → ℕ) (words : List ℕ) → words ≡ filledTo step list words 0
 unfolding filledTo
 filled-none step list words = refl
@@ -90,6 +99,14 @@ pub length-filled : (step : List ℕ → ℕ → ℕ) (list : ℕ → ℕ) (word
 unfolding filledTo
 length-filled step list words zero = refl
 length-filled step list words (suc i) = length-set (filledTo step list words i) _ _ ∙ length-filled step list words i
+
+pub filled-same : (step : List ℕ → ℕ → ℕ) (list list′ : ℕ → ℕ) (words : List ℕ) (n : ℕ) → ((i : ℕ) → i < n → list i ≡ list′ i)
+    → filledTo step list words n ≡ filledTo step list′ words n
+unfolding filledTo
+filled-same step list list′ words zero same = refl
+filled-same step list list′ words (suc i) same =
+    let e : list i ≡ list′ i = same i (omega arith) in
+    rw (filled-same step list list′ words i (λ j l. same j (omega arith)), e)
 
 -- node n stands on the list before place i
 pub record Before (list : ℕ → ℕ) (i n : ℕ) : Type 0 where

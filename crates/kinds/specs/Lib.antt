@@ -1,2 +1,2 @@
--- What the kind of a symbol over two kinds, and that of the empty forest, is promised to be.
-pub mod Promises
+-- The steps in which the kind of a symbol over two kinds is computed.
+pub mod Steps

@@ -5,7 +5,7 @@
 ghost use mathlib.Core.Path.{_≡_};
 ghost use mathlib.Core.List.{[], _∷_};
 ghost use Prim.Native.Nat.{ℕ, _+_, _*_, _-_, _/_, _^_, _<_, _≤_};
-ghost use lib.ListN.{getD};
+ghost use lib.ListN.{length, getD};
 ghost use lib.Bits.{bitAnd};
 ghost use Rattle.kind_words.specs.Lanes.{Sized, Laid, StatesAt, symbolRow, symbolWord, callLanes};
 
@@ -32,6 +32,14 @@ pub fn place(entry: u16) -> usize
     ensures { λ r. ⌜ r ≡ entry ⌝ }
 {
     entry as usize
+}
+
+// The entry at a place of a table, as a place.
+pub fn place_at(table: &[u16], k: usize) -> usize
+    requires { ⌜ k < length (now table) ⌝ }
+    ensures { λ r. ⌜ r ≡ getD (now (table .entry)) k 0 ⌝ }
+{
+    place(table[k])
 }
 
 // A word put some bits up, where it fits.

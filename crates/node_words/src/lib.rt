@@ -2,14 +2,13 @@
 // node at once.
 ghost use mathlib.Core.Path.{_≡_};
 ghost use mathlib.Core.Bool.{cond};
-ghost use mathlib.Core.List.{List};
-ghost use Prim.Native.Nat.{ℕ, _+_, _^_, _<_, _≤_};
+ghost use Prim.Native.Nat.{_+_, _^_, _<_, _≤_};
 ghost use lib.Dec.{eqb};
 ghost use lib.ListN.{length, getD};
 ghost use Rattle.model.specs.Tables.{nodeCount};
 ghost use Rattle.kind_words.specs.Blocks.{factsFrom, widened};
 ghost use Rattle.kind_words.specs.Nodes.{outputWord, callWord};
-ghost use Rattle.kind_words.specs.Listed.{nodeStep, filledTo};
+ghost use Rattle.kind_words.specs.Listed.{nodeStep, wordsOn, AreNodes};
 ghost use Rattle.kind_words.specs.Fits.{LayoutFits, OutputFits, ProcedureFits, NodesFit};
 ghost use Rattle.lanes.specs.Layouts.{layoutOf};
 use blocks::assignments;
@@ -20,6 +19,7 @@ use lanes::Layout;
 use lanes::call_row;
 use lanes::call_two;
 use lanes::place;
+use lanes::place_at;
 use lanes::spread;
 use lanes::symbol_word;
 use lanes::up;
@@ -171,22 +171,20 @@ fn node_word(
 pub fn fill_words(
     layout: Layout,
     offsets: &[u16; 16],
-    lists: &[u16],
     counts: &[u16],
     table: &[u16],
     nodes: &[u16],
-    start: usize,
-    count: usize,
+    list: &[u16],
     left: &[u64; 6],
     right: &[u64; 6],
     words: &mut [u64],
 )
-    requires { ⌜ NodesFit (layoutOf layout) (now offsets) (now counts) (now table) (now nodes) × (start + count ≤ length (now lists)) × ((i : ℕ) → i < count → getD (now lists) (start + i) 0 < nodeCount (now nodes)) × (nodeCount (now nodes) ≤ length (now words)) ⌝ }
-    ensures { λ _. ⌜ now (words .exit) ≡ filledTo (λ (w : List ℕ) (n : ℕ). nodeStep (layoutOf layout) (now (offsets .entry)) (now (counts .entry)) (now (table .entry)) (now (nodes .entry)) (now (left .entry)) (now (right .entry)) w n) (λ (i : ℕ). getD (now (lists .entry)) (start + i) 0) (now (words .entry)) count ⌝ }
+    requires { ⌜ NodesFit (layoutOf layout) (now offsets) (now counts) (now table) (now nodes) × AreNodes (now nodes) (now list) × (nodeCount (now nodes) ≤ length (now words)) ⌝ }
+    ensures { λ _. ⌜ now (words .exit) ≡ wordsOn (layoutOf layout) (now (offsets .entry)) (now (counts .entry)) (now (table .entry)) (now (nodes .entry)) (now (left .entry)) (now (right .entry)) (now (list .entry)) (now (words .entry)) ⌝ }
 {
     let mut i: usize = 0;
-    while i < count {
-        let n = place(lists[start + i]);
+    while i < list.len() {
+        let n = place_at(list, i);
         let word = node_word(layout, offsets, counts, table, nodes, left, right, words, n);
         words[n] = word;
         i += 1;
