@@ -1,18 +1,17 @@
 -- At the end of the list the rows that stand are in the buffers.
-use mathlib.Core.Path.{_≡_, ap, subst, _∙_}
+use mathlib.Core.Path.{_≡_, ap, _∙_}
 use mathlib.Core.List.{List}
 use Prim.Native.Nat.{ℕ, _*_, _≤_}
 use native.Mathlib.Omega.{arith}
 use lib.ListN.{length}
-use Rattle.model.specs.Tables.{Contract, contract}
+use Rattle.model.specs.Tables.{Contract}
 use Rattle.model.specs.Answers.{Answer}
 use Rattle.model.specs.Checking.{check}
 use Rattle.kind_lists.specs.Listing.{clearedFrom}
-use Rattle.kind_lists.specs.Steps.{Outcome}
-use Rattle.kind_lists.specs.Between.{Passed}
+use Rattle.kind_lists.specs.Outcomes.{Outcome, Passed}
 use Rattle.kind_lists.specs.Closing.{rowsStanding, answerAfter, Gives, closes}
-use Rattle.kind_lists.specs.declared.loops.Progress.{Progress}
-use Rattle.kind_lists.specs.declared.loops.Progress.the-variants as progress
+use Rattle.kind_lists.specs.declared.Progress.{Progress}
+use Rattle.kind_lists.specs.declared.Progress.the-variants as progress
 
 abbrev pub Ended : (C : Contract) (limit : ℕ) (rows words : List ℕ) → Progress → Type 0
 Ended C limit rows words p = Outcome C (λ n. Passed C limit n rows words) limit rows words p
@@ -31,13 +30,6 @@ stands C limit rows words (progress.Breaks j) o =
     let h = o .holds in let k = o .last in
     record { few = h .few; fits = omega (arith, h .fits); rowRoom = h .rowRoom; wordRoom = h .wordRoom }
 stands C limit rows words progress.Full o = record { few = o .few; fits = omega arith; rowRoom = o .rowRoom; wordRoom = o .wordRoom }
-
--- .. of the contract with the same states
-pub ended-at-states : (S I states o : ℕ) (counts inputRows inputMarks table outputMarks nodes rules : List ℕ) (limit : ℕ) (rows words : List ℕ) (p : Progress)
-    → o ≡ states → Ended (contract S I o counts inputRows inputMarks table outputMarks nodes rules) limit rows words p
-    → Ended (contract S I states counts inputRows inputMarks table outputMarks nodes rules) limit rows words p
-ended-at-states S I states o counts inputRows inputMarks table outputMarks nodes rules limit rows words p e x =
-    subst (λ (k : ℕ). Ended (contract S I k counts inputRows inputMarks table outputMarks nodes rules) limit rows words p) e x
 
 -- .. and cleared after them the buffers are those of the check
 pub ended-gives : (C : Contract) (limit : ℕ) (rows words : List ℕ) (p : Progress) → Ended C limit rows words p

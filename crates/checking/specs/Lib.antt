@@ -1,3 +1,2 @@
--- What a check comes to, step by step; and what a caller may conclude from calls.
-pub mod Steps
+-- What a caller may conclude from calls.
 pub mod Calls
