@@ -35,7 +35,12 @@ fn write_kind(words: &[u64; 6], kind: &mut [u64])
 }
 
 // Judges a document by a prepared contract: writes the kind of its tree, and says what the kind tells.
-fn judge_tree(prepared: Prepared, table: &[u16], numbers: &[u16], kind: &mut [u64]) -> JudgingAnswer
+fn judge_prepared(
+    prepared: Prepared,
+    table: &[u16],
+    numbers: &[u16],
+    kind: &mut [u64],
+) -> JudgingAnswer
     requires { ⌜ Ready prepared (now table) × Document (prepared .symbols) (now numbers) × (length (now kind) ≡ 5) ⌝ }
     ensures { λ r. ⌜ Comes (judgingAnswer r) (now (kind .exit)) (judgedTree (contractIn prepared (now (table .entry))) (documentTree (now (numbers .entry)))) ⌝ }
 {
@@ -118,7 +123,7 @@ pub fn judge(
             &mut left_masks,
             &mut right_masks,
         );
-        return judge_tree(prepared, &table, numbers, kind);
+        return judge_prepared(prepared, &table, numbers, kind);
     }
     let mut table = most_table();
     let prepared = prepare(
@@ -136,5 +141,5 @@ pub fn judge(
         &mut left_masks,
         &mut right_masks,
     );
-    judge_tree(prepared, &table, numbers, kind)
+    judge_prepared(prepared, &table, numbers, kind)
 }

@@ -48,11 +48,11 @@ slice-aggregate-prepare c = search needs
 prepare-requires : tie.Need-prepare-requires
 prepare-requires c κs = (admitted-established _ _ (c .before .before .before .before .before .before .before .before .before .enum-told .given .1) (c .before .before .before .before .before .before .before .before .before .before .before .admit .ensures), omega (arith, c .before .before .before .before .table-length .ensures), omega arith)
 
-slice-aggregate-judge-tree : tie.Need-slice-aggregate-judge-tree
-slice-aggregate-judge-tree c = search needs
+slice-aggregate-judge-prepared : tie.Need-slice-aggregate-judge-prepared
+slice-aggregate-judge-prepared c = search needs
 
-judge-tree-requires : tie.Need-judge-tree-requires
-judge-tree-requires c κs =
+judge-prepared-requires : tie.Need-judge-prepared-requires
+judge-prepared-requires c κs =
     let made = c .before .before .before .prepare .ensures in
     (made .ready, document-in _ _ _ (made .contract) (document-fine _ _ (sym (c .before .before .before .before .before .before .before .before .before .before .before .document .ensures) ∙ ap documentVerdict (c .before .before .before .before .before .before .before .before .before .enum-told2 .given .1))), omega (arith, c .before .before .before .before .before .before .before .before .before .before .before .before .if1 .left))
 
@@ -60,7 +60,7 @@ same-length : tie.Need-same-length
 same-length c = search needs
 
 returns-4 : tie.Need-returns-4
-returns-4 c = judged-document _ _ _ (admitted-fine _ _ (c .before .before .before .before .before .before .before .before .before .before .before .before .before .before .before .before .enum-told .given .1) (c .before .before .before .before .before .before .before .before .before .before .before .before .before .before .before .before .before .before .admit .ensures)) (omega (arith, c .before .before .before .before .before .before .before .before .before .before .before .before .before .before .before .if1 .left)) (sym (c .before .before .before .before .before .before .before .before .before .before .before .before .before .before .document .ensures) ∙ ap documentVerdict (c .before .before .before .before .before .before .before .before .before .before .before .before .enum-told2 .given .1)) _ (c .before .before .before .before .before .before .prepare .ensures .contract) (c .before .before .judge-tree .ensures)
+returns-4 c = judged-document _ _ _ (admitted-fine _ _ (c .before .before .before .before .before .before .before .before .before .before .before .before .before .before .before .before .enum-told .given .1) (c .before .before .before .before .before .before .before .before .before .before .before .before .before .before .before .before .before .before .admit .ensures)) (omega (arith, c .before .before .before .before .before .before .before .before .before .before .before .before .before .before .before .if1 .left)) (sym (c .before .before .before .before .before .before .before .before .before .before .before .before .before .before .document .ensures) ∙ ap documentVerdict (c .before .before .before .before .before .before .before .before .before .before .before .before .enum-told2 .given .1)) _ (c .before .before .before .before .before .before .prepare .ensures .contract) (c .before .before .judge-prepared .ensures)
 
 most-table-requires : tie.Need-most-table-requires
 most-table-requires c κs = search needs
@@ -71,11 +71,11 @@ slice-aggregate-prepare-2 c = search needs
 prepare-requires-2 : tie.Need-prepare-requires-2
 prepare-requires-2 c κs = let known = admitted-established _ _ (c .before .before .before .before .before .before .before .before .before .before .enum-told .given .1) (c .before .before .before .before .before .before .before .before .before .before .before .before .admit .ensures) in (known, omega (arith, room-enough _ known), omega arith)
 
-slice-aggregate-judge-tree-2 : tie.Need-slice-aggregate-judge-tree-2
-slice-aggregate-judge-tree-2 c = search needs
+slice-aggregate-judge-prepared-2 : tie.Need-slice-aggregate-judge-prepared-2
+slice-aggregate-judge-prepared-2 c = search needs
 
-judge-tree-requires-2 : tie.Need-judge-tree-requires-2
-judge-tree-requires-2 c κs =
+judge-prepared-requires-2 : tie.Need-judge-prepared-requires-2
+judge-prepared-requires-2 c κs =
     let made = c .before .before .before .prepare2 .ensures in
     (made .ready, document-in _ _ _ (made .contract) (document-fine _ _ (sym (c .before .before .before .before .before .before .before .before .before .before .before .before .document .ensures) ∙ ap documentVerdict (c .before .before .before .before .before .before .before .before .before .before .enum-told2 .given .1))), omega (arith, c .before .before .before .before .before .before .before .before .before .before .before .before .before .if1 .left))
 
@@ -83,7 +83,7 @@ same-length-2 : tie.Need-same-length-2
 same-length-2 c = search needs
 
 returns-5 : tie.Need-returns-5
-returns-5 c = judged-document _ _ _ (admitted-fine _ _ (c .before .before .before .before .before .before .before .before .before .before .before .before .before .before .before .before .before .enum-told .given .1) (c .before .before .before .before .before .before .before .before .before .before .before .before .before .before .before .before .before .before .before .admit .ensures)) (omega (arith, c .before .before .before .before .before .before .before .before .before .before .before .before .before .before .before .before .if1 .left)) (sym (c .before .before .before .before .before .before .before .before .before .before .before .before .before .before .before .document .ensures) ∙ ap documentVerdict (c .before .before .before .before .before .before .before .before .before .before .before .before .before .enum-told2 .given .1)) _ (c .before .before .before .before .before .before .prepare2 .ensures .contract) (c .before .before .judge-tree2 .ensures)
+returns-5 c = judged-document _ _ _ (admitted-fine _ _ (c .before .before .before .before .before .before .before .before .before .before .before .before .before .before .before .before .before .enum-told .given .1) (c .before .before .before .before .before .before .before .before .before .before .before .before .before .before .before .before .before .before .before .admit .ensures)) (omega (arith, c .before .before .before .before .before .before .before .before .before .before .before .before .before .before .before .before .if1 .left)) (sym (c .before .before .before .before .before .before .before .before .before .before .before .before .before .before .before .document .ensures) ∙ ap documentVerdict (c .before .before .before .before .before .before .before .before .before .before .before .before .before .enum-told2 .given .1)) _ (c .before .before .before .before .before .before .prepare2 .ensures .contract) (c .before .before .judge-prepared2 .ensures)
 
 pub judge-spec : {M : Type 1} → statement M
 judge-spec =
@@ -101,14 +101,14 @@ judge-spec =
     table-length-requires
     slice-aggregate-prepare
     prepare-requires
-    slice-aggregate-judge-tree
-    judge-tree-requires
+    slice-aggregate-judge-prepared
+    judge-prepared-requires
     same-length
     returns-4
     most-table-requires
     slice-aggregate-prepare-2
     prepare-requires-2
-    slice-aggregate-judge-tree-2
-    judge-tree-requires-2
+    slice-aggregate-judge-prepared-2
+    judge-prepared-requires-2
     same-length-2
     returns-5)

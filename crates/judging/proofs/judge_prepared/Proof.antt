@@ -2,8 +2,8 @@
 use mathlib.Core.Path.{sym, _∙_}
 use borrow.Author.Needs.{needs}
 use Rattle.judging.specs.Steps.{comes-outside, comes-sound, comes-breaking}
-use Rattle.judging.proofs.judge_tree.Statement.{statement}
-use Rattle.judging.proofs.judge_tree.Tie as tie
+use Rattle.judging.proofs.judge_prepared.Statement.{statement}
+use Rattle.judging.proofs.judge_prepared.Tie as tie
 
 document-kind-requires : tie.Need-document-kind-requires
 document-kind-requires c κs = search needs
@@ -41,8 +41,8 @@ returns-3 c =
     let ready = c .before .before .before .before .before .before .before .before .before .before .before .before .before .pre .0 in
     comes-outside _ (ready .prepared .established) _ (ready .verdicts) _ _ _ (c .before .before .before .before .before .before .before .before .before .document-kind .ensures) (c .before .before .before .before .before .before .write-kind .ensures) (sym (c .if1 .left) ∙ c .before .of-input-type .ensures)
 
-pub judge-tree-spec : {M : Type 1} → statement M
-judge-tree-spec =
+pub judge-prepared-spec : {M : Type 1} → statement M
+judge-prepared-spec =
     tie.close
     (tie.spec
     document-kind-requires
