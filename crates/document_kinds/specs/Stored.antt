@@ -6,16 +6,16 @@ use native.Mathlib.Omega.{arith}
 use native.Mathlib.Decide.{ℕ-discrete}
 use lib.ListN.{length, getD, set, take, length-set, length-append}
 use lib.Seq.{getD-set-same, getD-set-other, take-append-seam}
-use Rattle.model.specs.Tables.{Contract, contract}
+use Rattle.model.specs.Tables.{Contract}
 use Rattle.model.specs.Trees.{Tree, empty, node}
+use Rattle.model.specs.Documents.{documentTree}
 use Rattle.model.specs.Kinds.{kindOf, nextKind, emptyKind}
 use Rattle.model.proofs.Laws.Established.{Established}
 use Rattle.model.proofs.Laws.Facts.{length-words}
-use Rattle.model.proofs.Laws.Documents.{treeFrom}
+use Rattle.model.proofs.Laws.Documents.{Document, Readable, treeFrom, endFrom, some-number, inner-place, document-tree}
 use Rattle.kind_words.specs.Blocks.{Words}
-use Rattle.kind_words.specs.Listed.{Layout}
-use Rattle.kind_words.specs.Kind.{Prepared}
 use Rattle.kind_words.specs.Ends.{next-words, empty-words}
+use Rattle.reading.specs.Ends.{EndsFrom}
 
 -- the six words of a place
 abbrev pub kindAt : List ℕ → ℕ → List ℕ
@@ -31,10 +31,6 @@ putWords kinds i k (suc n) = set (putWords kinds i k n) (6 * i + n) (getD k n 0)
 
 abbrev pub putKind : List ℕ → ℕ → List ℕ → List ℕ
 putKind kinds i k = putWords kinds i k 6
-
--- the numbers of a document are symbols
-abbrev pub Symbols : List ℕ → Type 0
-Symbols numbers = (i : ℕ) → i < length numbers → getD numbers i 0 < 16
 
 module _ (kinds : List ℕ) (i : ℕ) (k : List ℕ) where
   pub put-length : (n : ℕ) → length (putWords kinds i k n) ≡ length kinds
@@ -94,57 +90,80 @@ module _ (kinds : List ℕ) (i : ℕ) (k : List ℕ) where
       six (a ∷ b ∷ c ∷ d ∷ e ∷ f ∷ []) h = refl
       six (a ∷ b ∷ c ∷ d ∷ e ∷ f ∷ g ∷ k) h = absurd (omega arith)
 
--- the kind of a tree, and a 0
 module _ (C : Contract) where
-  pub kind-length : (t : Tree) → length (kindOf C t) ≡ 5
+  kind-length : (t : Tree) → length (kindOf C t) ≡ 5
   unfolding kindOf nextKind emptyKind
   kind-length empty = length-words C _ _
   kind-length (node s l r) = length-words C _ _
 
-  pub kind-words : Established C → (t : Tree) → Words (kindOf C t ++ (0 ∷ []))
-  unfolding kindOf
-  kind-words known empty = empty-words C known
-  kind-words known (node s l r) = next-words C known s (kindOf C l) (kindOf C r)
-
+  -- the kind of a tree, and a 0
   pub kind-six : (t : Tree) → length (kindOf C t ++ (0 ∷ [])) ≡ 6
   kind-six t = length-append (kindOf C t) (0 ∷ []) ∙ rw (kind-length t)
 
   pub kind-taken : (t : Tree) → take 5 (kindOf C t ++ (0 ∷ [])) ≡ kindOf C t
   kind-taken t = ap (λ (n : ℕ). take n (kindOf C t ++ (0 ∷ []))) (sym (kind-length t)) ∙ take-append-seam (kindOf C t) (0 ∷ [])
 
-  pub kind-node : (s : ℕ) (l r : Tree) (left right k : List ℕ) → left ≡ kindOf C l ++ (0 ∷ []) → right ≡ kindOf C r ++ (0 ∷ [])
-      → k ≡ nextKind C s (take 5 left) (take 5 right) ++ (0 ∷ [])
-      → k ≡ kindOf C (node s l r) ++ (0 ∷ [])
+  pub kind-words : Established C → (k : List ℕ) (t : Tree) → k ≡ kindOf C t ++ (0 ∷ []) → Words k
   unfolding kindOf
-  kind-node s l r left right k el er ek = ek ∙ rw (el, er, kind-taken l, kind-taken r)
+  kind-words known k empty e = rw e (empty-words C known)
+  kind-words known k (node s l r) e = rw e (next-words C known s (kindOf C l) (kindOf C r))
 
-module _ (lay : Layout) (offsets lists counts rows table nodes rules : List ℕ) where
-  -- the kind of a tree, for every contract that the tables are prepared for
-  abbrev pub IsKindOf : Tree → List ℕ → Type 0
-  IsKindOf t kind =
-      (S I : ℕ) (inputMarks outputMarks : List ℕ)
-      → Prepared (contract S I (lay .states) counts rows inputMarks table outputMarks nodes rules) lay offsets lists
-      → kind ≡ kindOf (contract S I (lay .states) counts rows inputMarks table outputMarks nodes rules) t ++ (0 ∷ [])
+  pub kind-empty : (t : Tree) → t ≡ empty → emptyKind C ++ (0 ∷ []) ≡ kindOf C t ++ (0 ∷ [])
+  unfolding kindOf
+  kind-empty t e = rw e
 
-  -- the kinds of the places from n on are kept
+  kind-node : (s : ℕ) (l r : Tree) (left right : List ℕ) → left ≡ kindOf C l ++ (0 ∷ []) → right ≡ kindOf C r ++ (0 ∷ [])
+      → nextKind C s (take 5 left) (take 5 right) ++ (0 ∷ []) ≡ kindOf C (node s l r) ++ (0 ∷ [])
+  unfolding kindOf
+  kind-node s l r left right el er = rw (el, er, kind-taken l, kind-taken r)
+
+  -- the kinds of the trees from place n on are kept
   pub record StoredFrom (n : ℕ) (numbers kinds : List ℕ) : Type 0 where
     pub long : 6 * length numbers ≤ length kinds
-    pub kept : (j : ℕ) → n ≤ j → j < length numbers → IsKindOf (treeFrom numbers j) (kindAt kinds j)
+    pub kept : (j : ℕ) → n ≤ j → j < length numbers → kindAt kinds j ≡ kindOf C (treeFrom numbers j) ++ (0 ∷ [])
 
   pub stored-none : (numbers kinds : List ℕ) → 6 * length numbers ≤ length kinds → StoredFrom (length numbers) numbers kinds
   stored-none numbers kinds long = record { long = long; kept = λ j l h. absurd (omega arith) }
 
-  -- one place more; the kind has six words, as some contract shows
-  pub stored-more : (i : ℕ) (numbers kinds kinds′ k : List ℕ) → StoredFrom (suc i) numbers kinds → i < length numbers → length k ≡ 6 → IsKindOf (treeFrom numbers i) k
+  -- one place more
+  pub stored-more : (i : ℕ) (numbers kinds kinds′ k : List ℕ) → StoredFrom (suc i) numbers kinds → i < length numbers → k ≡ kindOf C (treeFrom numbers i) ++ (0 ∷ [])
       → kinds′ ≡ putKind kinds i k
       → StoredFrom i numbers kinds′
-  stored-more i numbers kinds kinds′ k h small long is e =
+  stored-more i numbers kinds kinds′ k h small is e =
       rw e (record { long = rw (put-length kinds i k 6) (h .long); kept = λ j l m. go j l m (ℕ-discrete j i) })
     where
-      go : (j : ℕ) → i ≤ j → j < length numbers → Dec (j ≡ i) → IsKindOf (treeFrom numbers j) (kindAt (putKind kinds i k) j)
-      go j l m (yes q) = rw q (rw (at-same kinds i k long (omega (arith, h .long))) is)
-      go j l m (no ne) = rw (at-other kinds i k j ne) (h .kept j (omega arith) m)
+      go : (j : ℕ) → i ≤ j → j < length numbers → Dec (j ≡ i) → kindAt (putKind kinds i k) j ≡ kindOf C (treeFrom numbers j) ++ (0 ∷ [])
+      go j l m (yes q) = rw q (at-same kinds i k (ap length is ∙ kind-six _) (omega (arith, h .long)) ∙ is)
+      go j l m (no ne) = at-other kinds i k j ne ∙ h .kept j (omega arith) m
 
-pub kind-empty : (C : Contract) (t : Tree) → t ≡ empty → emptyKind C ++ (0 ∷ []) ≡ kindOf C t ++ (0 ∷ [])
-unfolding kindOf
-kind-empty C t e = rw e
+  -- the kind of the first place is that of the document's tree
+  pub stored-first : (S : ℕ) (numbers kinds : List ℕ) → Document S numbers → StoredFrom 0 numbers kinds
+      → kindAt kinds 0 ≡ kindOf C (documentTree numbers) ++ (0 ∷ [])
+  stored-first S numbers kinds document h =
+      h .kept 0 (omega arith) (omega (arith, some-number (documentTree numbers), ap length (document .numbers)))
+      ∙ ap (λ (t : Tree). kindOf C t ++ (0 ∷ [])) (sym (document-tree numbers))
+
+  -- a place whose symbol is not 0: its children's kinds are kept, the left one's at the next place and the right one's where
+  -- the left child ends
+  pub record Children (numbers ends kinds : List ℕ) (i : ℕ) : Type 0 where
+    pub leftWithin : i + 1 < length numbers
+    pub rightWithin : getD ends (i + 1) 0 < length numbers
+    pub left : kindAt kinds (i + 1) ≡ kindOf C (treeFrom numbers (i + 1)) ++ (0 ∷ [])
+    pub right : kindAt kinds (getD ends (i + 1) 0) ≡ kindOf C (treeFrom numbers (getD ends (i + 1) 0)) ++ (0 ∷ [])
+    pub joined : nextKind C (getD numbers i 0) (take 5 (kindAt kinds (i + 1))) (take 5 (kindAt kinds (getD ends (i + 1) 0))) ++ (0 ∷ []) ≡ kindOf C (treeFrom numbers i) ++ (0 ∷ [])
+
+  pub children : (numbers ends kinds : List ℕ) (i : ℕ) → Readable numbers → EndsFrom 0 numbers ends → StoredFrom (i + 1) numbers kinds → i < length numbers → 1 ≤ getD numbers i 0
+      → Children numbers ends kinds i
+  children numbers ends kinds i readable fits h small more =
+      let inner = inner-place numbers readable i small more in
+      let e : getD ends (i + 1) 0 ≡ endFrom numbers (i + 1) = fits (i + 1) (omega arith) (inner .left) in
+      let within : getD ends (i + 1) 0 < length numbers = omega (arith, inner .right) in
+      let l = h .kept (i + 1) (omega arith) (inner .left) in
+      let r = h .kept (getD ends (i + 1) 0) (omega arith) within in
+      record {
+        leftWithin = inner .left;
+        rightWithin = within;
+        left = l;
+        right = r;
+        joined = kind-node (getD numbers i 0) (treeFrom numbers (i + 1)) (treeFrom numbers (getD ends (i + 1) 0)) _ _ l r ∙ rw (inner .tree, e);
+      }

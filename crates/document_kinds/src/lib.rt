@@ -1,18 +1,18 @@
 // The kind of a document: the kinds of the trees that start at each of its places, from the last place to the first, without
 // recursion.
 ghost use mathlib.Core.Path.{_≡_};
+ghost use mathlib.Core.List.{[], _∷_, _++_};
 ghost use Prim.Native.Nat.{_+_, _*_, _<_, _≤_};
 ghost use lib.ListN.{length};
-ghost use Rattle.model.specs.Documents.{mostNumbers};
-ghost use Rattle.model.proofs.Laws.Documents.{Readable, treeFrom};
-ghost use Rattle.kind_words.specs.Fits.{Ready};
-ghost use Rattle.lanes.specs.Layouts.{layoutOf};
-ghost use Rattle.kinds.specs.Promises.{IsEmptyKind};
+ghost use Rattle.model.specs.Documents.{documentTree};
+ghost use Rattle.model.specs.Kinds.{kindOf, emptyKind};
+ghost use Rattle.model.proofs.Laws.Documents.{Document, treeFrom};
+ghost use Rattle.prepared.specs.Parts.{contractIn, Ready};
 ghost use Rattle.reading.specs.Ends.{EndsFrom};
-ghost use Rattle.document_kinds.specs.Stored.{kindAt, putKind, IsKindOf, StoredFrom, Symbols};
-use kinds::empty_kind;
-use kinds::next_kind;
-use lanes::Layout;
+ghost use Rattle.document_kinds.specs.Stored.{kindAt, putKind, StoredFrom};
+use kinds::empty_of;
+use kinds::kind_of;
+use prepared::Prepared;
 use reading::fill_ends;
 use reading::right_child;
 use tables::Symbol;
@@ -54,22 +54,19 @@ fn put_kind(kinds: &mut [u64], place: usize, kind: &[u64; 6])
 
 // The kind of the tree that starts at place i, from the kinds of the trees at later places.
 fn kind_of_place(
-    layout: Layout,
-    offsets: &[u16; 16],
-    lists: &[u16],
-    counts: &[u16],
-    rows: &[u16],
+    prepared: Prepared,
     table: &[u16],
-    nodes: &[u16],
-    rules: &[u16],
     numbers: &[u16],
     ends: &[u16],
     kinds: &[u64],
     empty: [u64; 6],
     i: usize,
+    room: &mut [u64; 256],
 ) -> [u64; 6]
-    requires { ⌜ Ready (layoutOf layout) (now offsets) (now lists) (now counts) (now rows) (now table) (now nodes) (now rules) × Readable (now numbers) × (length (now numbers) ≤ mostNumbers) × Symbols (now numbers) × (i < length (now numbers)) × EndsFrom 0 (now numbers) (now ends) × (length (now numbers) ≤ length (now ends)) × IsEmptyKind (layoutOf layout) (now offsets) (now lists) (now counts) (now rows) (now table) (now nodes) (now rules) empty × StoredFrom (layoutOf layout) (now offsets) (now lists) (now counts) (now rows) (now table) (now nodes) (now rules) (i + 1) (now numbers) (now kinds) ⌝ }
-    ensures { λ r. ⌜ IsKindOf (layoutOf layout) (now (offsets .entry)) (now (lists .entry)) (now (counts .entry)) (now (rows .entry)) (now (table .entry)) (now (nodes .entry)) (now (rules .entry)) (treeFrom (now (numbers .entry)) i) r ⌝ }
+    requires { ⌜ Ready prepared (now table) × Document (prepared .symbols) (now numbers) × (i < length (now numbers)) ⌝ }
+    requires { ⌜ EndsFrom 0 (now numbers) (now ends) × (length (now numbers) ≤ length (now ends)) ⌝ }
+    requires { ⌜ (empty ≡ emptyKind (contractIn prepared (now table)) ++ (0 ∷ [])) × StoredFrom (contractIn prepared (now table)) (i + 1) (now numbers) (now kinds) ⌝ }
+    ensures { λ r. ⌜ r ≡ kindOf (contractIn prepared (now (table .entry))) (treeFrom (now (numbers .entry)) i) ++ (0 ∷ []) ⌝ }
 {
     let symbol = Symbol(numbers[i]);
     if symbol.0 == 0 {
@@ -77,108 +74,40 @@ fn kind_of_place(
     }
     let left = kind_at(kinds, i + 1);
     let right = kind_at(kinds, right_child(ends, i));
-    next_kind(
-        layout,
-        offsets,
-        lists,
-        counts,
-        rows,
-        table,
-        nodes,
-        rules,
-        symbol,
-        &left,
-        &right,
-    )
+    kind_of(prepared, table, symbol, &left, &right, room)
 }
 
-// The kind of a document's tree, with room for where the trees of its places end and for their kinds.
-fn kind_within(
-    layout: Layout,
-    offsets: &[u16; 16],
-    lists: &[u16],
-    counts: &[u16],
-    rows: &[u16],
-    table: &[u16],
-    nodes: &[u16],
-    rules: &[u16],
-    numbers: &[u16],
-    ends: &mut [u16],
-    kinds: &mut [u64],
-) -> [u64; 6]
-    requires { ⌜ Ready (layoutOf layout) (now offsets) (now lists) (now counts) (now rows) (now table) (now nodes) (now rules) × Readable (now numbers) × (1 ≤ length (now numbers)) × (length (now numbers) ≤ mostNumbers) × Symbols (now numbers) × (length (now numbers) ≤ length (now ends)) × (6 * length (now numbers) ≤ length (now kinds)) ⌝ }
-    ensures { λ r. ⌜ IsKindOf (layoutOf layout) (now (offsets .entry)) (now (lists .entry)) (now (counts .entry)) (now (rows .entry)) (now (table .entry)) (now (nodes .entry)) (now (rules .entry)) (treeFrom (now (numbers .entry)) 0) r ⌝ }
+// Fills in the kind of the tree that starts at each place, where it is known where these trees end.
+fn fill_kinds(prepared: Prepared, table: &[u16], numbers: &[u16], ends: &[u16], kinds: &mut [u64])
+    requires { ⌜ Ready prepared (now table) × Document (prepared .symbols) (now numbers) × (6 * length (now numbers) ≤ length (now kinds)) ⌝ }
+    requires { ⌜ EndsFrom 0 (now numbers) (now ends) × (length (now numbers) ≤ length (now ends)) ⌝ }
+    ensures { λ _. ⌜ StoredFrom (contractIn prepared (now (table .entry))) 0 (now (numbers .entry)) (now (kinds .exit)) ⌝ }
 {
-    fill_ends(numbers, ends);
-    let empty = empty_kind(layout, offsets, lists, counts, rows, table, nodes, rules);
+    let mut room = [0u64; 256];
+    let empty = empty_of(prepared, table, &mut room);
     let mut i = numbers.len();
     while 0 < i {
         i -= 1;
-        let kind = kind_of_place(
-            layout,
-            offsets,
-            lists,
-            counts,
-            rows,
-            table,
-            nodes,
-            rules,
-            numbers,
-            ends,
-            kinds,
-            empty,
-            i,
-        );
+        let kind = kind_of_place(prepared, table, numbers, ends, kinds, empty, i, &mut room);
         put_kind(kinds, i, &kind);
     }
-    kind_at(kinds, 0)
 }
 
 // The kind of a document's tree. There is room for sixteen numbers or for as many as there may be.
-pub fn document_kind(
-    layout: Layout,
-    offsets: &[u16; 16],
-    lists: &[u16],
-    counts: &[u16],
-    rows: &[u16],
-    table: &[u16],
-    nodes: &[u16],
-    rules: &[u16],
-    numbers: &[u16],
-) -> [u64; 6]
-    requires { ⌜ Ready (layoutOf layout) (now offsets) (now lists) (now counts) (now rows) (now table) (now nodes) (now rules) × Readable (now numbers) × (1 ≤ length (now numbers)) × (length (now numbers) ≤ mostNumbers) × Symbols (now numbers) ⌝ }
-    ensures { λ r. ⌜ IsKindOf (layoutOf layout) (now (offsets .entry)) (now (lists .entry)) (now (counts .entry)) (now (rows .entry)) (now (table .entry)) (now (nodes .entry)) (now (rules .entry)) (treeFrom (now (numbers .entry)) 0) r ⌝ }
+pub fn document_kind(prepared: Prepared, table: &[u16], numbers: &[u16]) -> [u64; 6]
+    requires { ⌜ Ready prepared (now table) × Document (prepared .symbols) (now numbers) ⌝ }
+    ensures { λ r. ⌜ r ≡ kindOf (contractIn prepared (now (table .entry))) (documentTree (now (numbers .entry))) ++ (0 ∷ []) ⌝ }
 {
     if numbers.len() <= 16 {
         let mut ends = [0u16; 16];
         let mut kinds = [0u64; 96];
-        return kind_within(
-            layout,
-            offsets,
-            lists,
-            counts,
-            rows,
-            table,
-            nodes,
-            rules,
-            numbers,
-            &mut ends,
-            &mut kinds,
-        );
+        fill_ends(numbers, &mut ends);
+        fill_kinds(prepared, table, numbers, &ends, &mut kinds);
+        return kind_at(&kinds, 0);
     }
     let mut ends = [0u16; 1023];
     let mut kinds = most_kinds();
-    kind_within(
-        layout,
-        offsets,
-        lists,
-        counts,
-        rows,
-        table,
-        nodes,
-        rules,
-        numbers,
-        &mut ends,
-        &mut kinds,
-    )
+    fill_ends(numbers, &mut ends);
+    fill_kinds(prepared, table, numbers, &ends, &mut kinds);
+    kind_at(&kinds, 0)
 }

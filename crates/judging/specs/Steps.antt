@@ -1,64 +1,30 @@
 -- Judging step by step: each refusal and the judgement, as the definition gives them.
 use mathlib.Core.Path.{_≡_, refl, ap, subst, sym, _∙_}
 use mathlib.Core.List.{List, [], _∷_, _++_}
-use mathlib.Core.Bool.{true, false}
-use Prim.Native.Nat.{ℕ, _<_, _≤_}
+use mathlib.Core.Bool.{Bool, true, false}
+use Prim.Native.Nat.{ℕ}
 use native.Mathlib.Omega.{arith}
 use lib.ListN.{length, getD, take, set}
 use borrow.Author.Tests.{eq-eqb, ne-eqb}
-use Rattle.model.specs.Tables.{Contract, contract}
+use Rattle.model.specs.Tables.{Contract}
+use Rattle.model.specs.Trees.{Tree}
 use Rattle.model.specs.Kinds.{kindOf, ofInputType, breaks}
 use Rattle.model.specs.Documents.{document, documentTree}
 use Rattle.model.specs.Answers.{fine, refuseIf, _then_, Answer, judged, refusal, given}
 use Rattle.model.specs.Admission.{admission, admit}
 use Rattle.model.specs.Judging.{Judged, judgement, judgingVerdict, judging}
+use Rattle.model.proofs.Laws.Answers.{given-stopped}
+use Rattle.model.proofs.Laws.Established.{Established}
+use Rattle.model.proofs.Laws.Documents.{Document}
 use Rattle.answers.specs.Numbers.{contractRefusal, documentRefusal}
 use Rattle.answers.specs.declared.ContractFault.{ContractFault}
 use Rattle.answers.specs.declared.DocumentFault.{DocumentFault}
 use Rattle.answers.specs.declared.DocumentFault.the-variants as document-fault
 use Rattle.reading.specs.Answers.{faultVerdict}
-use Rattle.model.proofs.Laws.Answers.{given-stopped}
-use Rattle.model.proofs.Laws.Established.{Established}
 use Rattle.admission.proofs.Answered.{refused-as}
-use Rattle.model.proofs.Laws.Documents.{treeFrom, AllBelow, Document, some-number, document-tree}
-use Rattle.document_kinds.specs.Stored.{Symbols, kind-taken}
-use Rattle.model.specs.Trees.{Tree}
-use Rattle.model.specs.Facts.{offset}
-use Rattle.kind_words.specs.Listed.{Layout}
-use Rattle.kind_words.specs.Kind.{Prepared, LayoutFor, ListsFor}
-
--- a contract of these tables that is admitted
-pub record Known (states : ℕ) (counts rows table nodes rules : List ℕ) : Type 0 where
-  pub symbols : ℕ
-  pub inputStates : ℕ
-  pub inputMarks : List ℕ
-  pub outputMarks : List ℕ
-  pub established : Established (contract symbols inputStates states counts rows inputMarks table outputMarks nodes rules)
-
--- the kind of a document's tree, with a sixth word that is 0, for every admitted contract of these tables
-abbrev pub IsTreeKind : (states : ℕ) (counts rows table nodes rules numbers kind : List ℕ) → Type 0
-IsTreeKind states counts rows table nodes rules numbers kind =
-    (S I : ℕ) (inputMarks outputMarks : List ℕ)
-    → Established (contract S I states counts rows inputMarks table outputMarks nodes rules)
-    → kind ≡ kindOf (contract S I states counts rows inputMarks table outputMarks nodes rules) (treeFrom numbers 0) ++ (0 ∷ [])
-
--- "0, not of the input type; 1, of it with no output outside the output type; 2, of it with such an output"
-abbrev pub IsJudgement : (inputMarks outputMarks words : List ℕ) → Answer → Type 0
-IsJudgement inputMarks outputMarks words answer =
-    (C : Contract) → Established C → C .input .marks ≡ inputMarks → C .output .marks ≡ outputMarks → answer ≡ judged (judgement C (take 5 words))
-
-module _ (C : Contract) (kind : List ℕ) where
-  pub judged-outside : false ≡ ofInputType C kind → judged 0 ≡ judged (judgement C kind)
-  unfolding judgement
-  judged-outside e = rw (← e)
-
-  pub judged-breaking : true ≡ ofInputType C kind → true ≡ breaks C kind → judged 2 ≡ judged (judgement C kind)
-  unfolding judgement
-  judged-breaking e f = rw (← e, ← f)
-
-  pub judged-sound : true ≡ ofInputType C kind → false ≡ breaks C kind → judged 1 ≡ judged (judgement C kind)
-  unfolding judgement
-  judged-sound e f = rw (← e, ← f)
+use Rattle.breaking.specs.declared.Verdicts.{Verdicts}
+use Rattle.breaking.specs.Verdicts.{VerdictsOf, accepting, breaking, accepting-is, breaking-is}
+use Rattle.document_kinds.specs.Stored.{kind-taken}
 
 -- five words of six
 pub five-of : (kind words : List ℕ) → length kind ≡ 5 → length words ≡ 6
@@ -83,6 +49,34 @@ pub record Comes (answer : Answer) (words : List ℕ) (to : Judged) : Type 0 whe
   pub answers : answer ≡ to .answer
   pub closes : words ≡ to .words
 
+-- the judgement of a tree, and its kind
+abbrev pub judgedTree : Contract → Tree → Judged
+judgedTree C t = record { answer = judged (judgement C (kindOf C t)); words = kindOf C t }
+
+-- what the two tests of a tree's kind tell; the kind is held with a sixth word, and written without
+module _ (C : Contract) (known : Established C) (v : Verdicts) (of : VerdictsOf (C .input .marks) (C .output .marks) v)
+    (t : Tree) (held written : List ℕ) (kind : held ≡ kindOf C t ++ (0 ∷ [])) (puts : written ≡ take 5 held) where
+  five : take 5 held ≡ kindOf C t
+  five = ap (λ (k : List ℕ). take 5 k) kind ∙ kind-taken C t
+
+  accepts : (b : Bool) → b ≡ accepting (v .accepted) held → ofInputType C (kindOf C t) ≡ b
+  accepts b e = sym (ap (ofInputType C) five) ∙ sym (accepting-is C known v of held) ∙ sym e
+
+  breaks-it : (b : Bool) → b ≡ breaking (v .accepted) (v .refused) held → breaks C (kindOf C t) ≡ b
+  breaks-it b e = sym (ap (breaks C) five) ∙ sym (breaking-is C known v of held) ∙ sym e
+
+  pub comes-outside : false ≡ accepting (v .accepted) held → Comes (judged 0) written (judgedTree C t)
+  unfolding judgement
+  comes-outside a = record { answers = rw (accepts false a); closes = puts ∙ five }
+
+  pub comes-sound : true ≡ accepting (v .accepted) held → false ≡ breaking (v .accepted) (v .refused) held → Comes (judged 1) written (judgedTree C t)
+  unfolding judgement
+  comes-sound a b = record { answers = rw (accepts true a, breaks-it false b); closes = puts ∙ five }
+
+  pub comes-breaking : true ≡ accepting (v .accepted) held → true ≡ breaking (v .accepted) (v .refused) held → Comes (judged 2) written (judgedTree C t)
+  unfolding judgement
+  comes-breaking a b = record { answers = rw (accepts true a, breaks-it true b); closes = puts ∙ five }
+
 module _ (C : Contract) (numbers buffer : List ℕ) where
   pub refused-contract : (fault : ContractFault) → contractRefusal fault ≡ admit C → Comes (contractRefusal fault) buffer (judging C numbers buffer)
   unfolding judging judgingVerdict admit
@@ -102,37 +96,15 @@ module _ (C : Contract) (numbers buffer : List ℕ) where
   refused-document e l (document-fault.Length n) d = record { answers = rw (e, eq-eqb (length buffer) 5 l, ← d); closes = rw (e, eq-eqb (length buffer) 5 l, ← d) }
   refused-document e l (document-fault.Number n) d = record { answers = rw (e, eq-eqb (length buffer) 5 l, ← d); closes = rw (e, eq-eqb (length buffer) 5 l, ← d) }
 
-  pub judged-document : admission C ≡ fine → length buffer ≡ 5 → fine ≡ document (C .transformation .symbols) numbers → (kind : List ℕ) → kind ≡ kindOf C (documentTree numbers)
-      → Comes (judged (judgement C kind)) kind (judging C numbers buffer)
+  -- with nothing refused, the judgement of the document's tree by a contract that is this one
+  pub judged-document : admission C ≡ fine → length buffer ≡ 5 → document (C .transformation .symbols) numbers ≡ fine → {answer : Answer} {words : List ℕ} (D : Contract) → D ≡ C
+      → Comes answer words (judgedTree D (documentTree numbers))
+      → Comes answer words (judging C numbers buffer)
   unfolding judging judgingVerdict given _then_ refuseIf
-  judged-document e l d kind k = record { answers = rw (e, eq-eqb (length buffer) 5 l, ← d, k); closes = rw (e, eq-eqb (length buffer) 5 l, ← d) k }
+  judged-document e l d D same comes =
+      let q : judging C numbers buffer ≡ judgedTree C (documentTree numbers) = rw (e, eq-eqb (length buffer) 5 l, d) in
+      rw q (rw same at comes)
 
-module _ (S I states : ℕ) (counts rows inputMarks table outputMarks nodes rules : List ℕ) (lay : Layout) (offsets lists : List ℕ) where
-  -- what preparation makes of an admitted contract
-  pub prepared-at : Established (contract S I states counts rows inputMarks table outputMarks nodes rules) → LayoutFor states counts lay
-      → ((p : ℕ) → p < length counts → getD offsets p 0 ≡ offset states counts p)
-      → ListsFor counts nodes rules rows lists
-      → Prepared (contract S I (lay .states) counts rows inputMarks table outputMarks nodes rules) lay offsets lists
-  prepared-at known layout place filled =
-      subst (λ (o : ℕ). Prepared (contract S I o counts rows inputMarks table outputMarks nodes rules) lay offsets lists) (sym (layout .states))
-      (record { established = known; layout = layout; place = place; lists = filled })
-
--- a kind of the contract with the same states
-pub kind-at-states : (S I states o : ℕ) (counts rows inputMarks table outputMarks nodes rules : List ℕ) (t : Tree) (kind : List ℕ) → o ≡ states
-    → kind ≡ kindOf (contract S I o counts rows inputMarks table outputMarks nodes rules) t ++ (0 ∷ [])
-    → kind ≡ kindOf (contract S I states counts rows inputMarks table outputMarks nodes rules) t ++ (0 ∷ [])
-kind-at-states S I states o counts rows inputMarks table outputMarks nodes rules t kind e k =
-    subst (λ (x : ℕ). kind ≡ kindOf (contract S I x counts rows inputMarks table outputMarks nodes rules) t ++ (0 ∷ [])) e k
-
--- the numbers of a document are symbols
-pub symbols-of : (S : ℕ) (xs : List ℕ) → S ≤ 16 → AllBelow S xs → Symbols xs
-symbols-of S xs few h i l = omega (arith, h i l)
-
-pub document-some : (S : ℕ) (xs : List ℕ) → Document S xs → 1 ≤ length xs
-document-some S xs d = omega (arith, some-number (documentTree xs), ap length (d .numbers))
-
--- the kind that is written is that of the document's tree
-pub written-kind : (C : Contract) (numbers words : List ℕ) → words ≡ kindOf C (treeFrom numbers 0) ++ (0 ∷ []) → take 5 words ≡ kindOf C (documentTree numbers)
-written-kind C numbers words e =
-    let a : take 5 words ≡ kindOf C (treeFrom numbers 0) = ap (λ (k : List ℕ). take 5 k) e ∙ kind-taken C (treeFrom numbers 0) in
-    a ∙ ap (kindOf C) (sym (document-tree numbers))
+-- a document of a contract's symbols is one of a contract that is this one
+pub document-in : (C D : Contract) (numbers : List ℕ) → D ≡ C → Document (C .transformation .symbols) numbers → Document (D .transformation .symbols) numbers
+document-in C D numbers e document = subst (λ (D : Contract). Document (D .transformation .symbols) numbers) (sym e) document

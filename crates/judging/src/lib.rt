@@ -1,98 +1,26 @@
 // Judging a document: whether it is of the input type, and whether an output is outside the output type; the kind of its tree
 // is written.
 ghost use mathlib.Core.Path.{_≡_};
-ghost use Prim.Native.Nat.{_<_, _≤_};
 ghost use lib.ListN.{length, take};
 ghost use Rattle.model.specs.Tables.{contract};
-ghost use Rattle.model.specs.Documents.{mostNumbers};
+ghost use Rattle.model.specs.Documents.{documentTree};
 ghost use Rattle.model.specs.Judging.{judging};
-ghost use Rattle.model.proofs.Laws.Documents.{Readable};
+ghost use Rattle.model.proofs.Laws.Documents.{Document};
 ghost use Rattle.answers.specs.Numbers.{judgingAnswer};
-ghost use Rattle.kind_words.specs.Kind.{listsLength};
-ghost use Rattle.document_kinds.specs.Stored.{Symbols};
-ghost use Rattle.judging.specs.Steps.{Known, IsTreeKind, IsJudgement, Comes};
+ghost use Rattle.prepared.specs.Parts.{contractIn, Ready};
+ghost use Rattle.judging.specs.Steps.{Comes, judgedTree};
 use admission::admit;
 use answers::AdmissionAnswer;
 use answers::JudgingAnswer;
 use breaking::breaks;
 use breaking::of_input_type;
 use document_kinds::document_kind;
-use layouts::layout_of;
-use layouts::offsets_of;
-use reaching::fill_lists;
-use reaching::lists_length;
-use reaching::most_lists;
+use prepared::Prepared;
+use preparing::most_table;
+use preparing::prepare;
+use preparing::table_length;
 use reading::DocumentAnswer;
 use reading::document;
-
-// The kind of a document's tree, with room for the table of lists.
-fn kind_with(
-    states: usize,
-    counts: &[u16],
-    rows: &[u16],
-    table: &[u16],
-    nodes: &[u16],
-    rules: &[u16],
-    numbers: &[u16],
-    lists: &mut [u16],
-) -> [u64; 6]
-    requires { ⌜ Known states (now counts) (now rows) (now table) (now nodes) (now rules) × Readable (now numbers) × (1 ≤ length (now numbers)) × (length (now numbers) ≤ mostNumbers) × Symbols (now numbers) × (listsLength (now rows) (now nodes) (now rules) ≤ length (now lists)) × (length (now lists) < 65536) ⌝ }
-    ensures { λ r. ⌜ IsTreeKind states (now (counts .entry)) (now (rows .entry)) (now (table .entry)) (now (nodes .entry)) (now (rules .entry)) (now (numbers .entry)) r ⌝ }
-{
-    let layout = layout_of(states, counts);
-    let offsets = offsets_of(states, counts);
-    fill_lists(counts, rows, nodes, rules, lists);
-    document_kind(
-        layout,
-        &offsets,
-        lists,
-        counts,
-        rows,
-        table,
-        nodes,
-        rules,
-        numbers,
-    )
-}
-
-// The kind of a document's tree, with all that is prepared for its contract; the table of lists is short for a small one.
-fn tree_kind(
-    states: usize,
-    counts: &[u16],
-    rows: &[u16],
-    table: &[u16],
-    nodes: &[u16],
-    rules: &[u16],
-    numbers: &[u16],
-) -> [u64; 6]
-    requires { ⌜ Known states (now counts) (now rows) (now table) (now nodes) (now rules) × Readable (now numbers) × (1 ≤ length (now numbers)) × (length (now numbers) ≤ mostNumbers) × Symbols (now numbers) ⌝ }
-    ensures { λ r. ⌜ IsTreeKind states (now (counts .entry)) (now (rows .entry)) (now (table .entry)) (now (nodes .entry)) (now (rules .entry)) (now (numbers .entry)) r ⌝ }
-{
-    if lists_length(rows, nodes, rules) <= 256 {
-        let mut lists = [0u16; 256];
-        return kind_with(
-            states,
-            counts,
-            rows,
-            table,
-            nodes,
-            rules,
-            numbers,
-            &mut lists,
-        );
-    }
-    let mut lists = most_lists();
-    kind_with(
-        states,
-        counts,
-        rows,
-        table,
-        nodes,
-        rules,
-        numbers,
-        &mut lists,
-    )
-}
 
 // Writes the five words of a kind.
 fn write_kind(words: &[u64; 6], kind: &mut [u64])
@@ -106,13 +34,21 @@ fn write_kind(words: &[u64; 6], kind: &mut [u64])
     kind[4] = words[4];
 }
 
-// What a kind says of its document; `input` and `output` are the accept marks of the two types.
-fn judgement_of(input: &[u16], output: &[u16], words: &[u64; 6]) -> JudgingAnswer
-    requires { ⌜ (length (now input) ≤ 64) × (length (now output) ≤ 64) ⌝ }
-    ensures { λ r. ⌜ IsJudgement (now (input .entry)) (now (output .entry)) (now (words .entry)) (judgingAnswer r) ⌝ }
+// Judges a document by a prepared contract: writes the kind of its tree, and says what the kind tells.
+fn judge_prepared(
+    prepared: Prepared,
+    table: &[u16],
+    numbers: &[u16],
+    kind: &mut [u64],
+) -> JudgingAnswer
+    requires { ⌜ Ready prepared (now table) × Document (prepared .symbols) (now numbers) × (length (now kind) ≡ 5) ⌝ }
+    ensures { λ r. ⌜ Comes (judgingAnswer r) (now (kind .exit)) (judgedTree (contractIn prepared (now (table .entry))) (documentTree (now (numbers .entry)))) ⌝ }
 {
-    if of_input_type(input, words) {
-        if breaks(input, output, words) {
+    let words = document_kind(prepared, table, numbers);
+    write_kind(&words, kind);
+    let verdicts = prepared.verdicts;
+    if of_input_type(verdicts, &words) {
+        if breaks(verdicts, &words) {
             return JudgingAnswer::Breaking;
         }
         return JudgingAnswer::Sound;
@@ -159,15 +95,51 @@ pub fn judge(
     if let DocumentAnswer::Refused(fault) = reading {
         return JudgingAnswer::Document(fault);
     }
-    let words = tree_kind(
+    let mut left_masks = [0u64; 80];
+    let mut right_masks = [0u64; 80];
+    let length = table_length(
+        counts,
+        input_rows,
+        input_marks,
+        output_table,
+        output_marks,
+        nodes,
+        rules,
+    );
+    if length <= 512 {
+        let mut table = [0u16; 512];
+        let prepared = prepare(
+            symbols,
+            input_states,
+            output_states,
+            counts,
+            input_rows,
+            input_marks,
+            output_table,
+            output_marks,
+            nodes,
+            rules,
+            &mut table,
+            &mut left_masks,
+            &mut right_masks,
+        );
+        return judge_prepared(prepared, &table, numbers, kind);
+    }
+    let mut table = most_table();
+    let prepared = prepare(
+        symbols,
+        input_states,
         output_states,
         counts,
         input_rows,
+        input_marks,
         output_table,
+        output_marks,
         nodes,
         rules,
-        numbers,
+        &mut table,
+        &mut left_masks,
+        &mut right_masks,
     );
-    write_kind(&words, kind);
-    judgement_of(input_marks, output_marks, &words)
+    judge_prepared(prepared, &table, numbers, kind)
 }

@@ -1,91 +1,72 @@
--- At symbol 0 stands the empty forest; at another place its children's kinds are kept, the left one's at the next place and
--- the right one's where the left child ends.
-use mathlib.Core.Path.{_≡_, _∙_}
-use Prim.Native.Nat.{_+_, _≤_, _<_}
+-- At symbol 0 stands the empty forest; at another place its children's kinds are joined.
+use mathlib.Core.Path.{_∙_}
 use native.Mathlib.Omega.{arith}
-use lib.ListN.{length, getD}
 use borrow.Author.Needs.{needs}
-use Rattle.model.proofs.Laws.Documents.{treeFrom, endFrom, inner-place, leaf-place}
-use Rattle.document_kinds.specs.Stored.{kind-words, kind-node, kind-empty}
+use Rattle.model.proofs.Laws.Documents.{leaf-place}
+use Rattle.document_kinds.specs.Stored.{kind-words, kind-empty, children}
 use Rattle.document_kinds.proofs.kind_of_place.Statement.{statement}
 use Rattle.document_kinds.proofs.kind_of_place.Tie as tie
 
-mul-t17 : tie.Need-mul-t17
-mul-t17 c = search needs
+mul-t12 : tie.Need-mul-t12
+mul-t12 c = search needs
 
-shared-slice-read-t19 : tie.Need-shared-slice-read-t19
-shared-slice-read-t19 c = search needs
+shared-slice-read-t14 : tie.Need-shared-slice-read-t14
+shared-slice-read-t14 c = search needs
 
 returns : tie.Need-returns
-returns c =
-    let args = c .before .before .before .before .before .before .before .before .before .before .before .before .args in
-    let pre = c .before .before .before .before .before .before .before .before .before .before .before .before .pre in
-    λ S I inputMarks outputMarks prepared.
-    pre .7 S I inputMarks outputMarks prepared ∙ kind-empty _ _ (leaf-place (args .numbers .now) (args .i) (pre .4) (c .if1 .taken))
+returns c = let pre = c .before .before .before .before .before .before .before .pre in pre .1 .1 .0 ∙ kind-empty _ _ (leaf-place _ _ (pre .0 .2) (c .if1 .taken))
 
 add-kind-at : tie.Need-add-kind-at
 add-kind-at c = search needs
 
 kind-at-requires : tie.Need-kind-at-requires
 kind-at-requires c κs =
-    let args = c .before .before .before .before .before .before .before .before .before .before .before .before .args in
-    let pre = c .before .before .before .before .before .before .before .before .before .before .before .before .pre in
-    let inner = inner-place (args .numbers .now) (pre .1) (args .i) (pre .4) (omega arith) in
-    omega (arith, inner .left, pre .8 .long)
+    let args = c .before .before .before .before .before .before .before .args in
+    let pre = c .before .before .before .before .before .before .before .pre in
+    let here = children _ (args .numbers .now) (args .ends .now) (args .kinds .now) (args .i) (pre .0 .1 .readable) (pre .1 .0 .0) (pre .1 .1 .1) (pre .0 .2) (omega arith) in
+    omega (arith, here .leftWithin, pre .1 .1 .1 .long)
 
 right-child-requires : tie.Need-right-child-requires
 right-child-requires c κs =
-    let args = c .before .before .before .before .before .before .before .before .before .before .before .before .before .args in
-    let pre = c .before .before .before .before .before .before .before .before .before .before .before .before .before .pre in
-    let inner = inner-place (args .numbers .now) (pre .1) (args .i) (pre .4) (omega arith) in
-    omega (arith, inner .left, pre .6)
+    let args = c .before .before .before .before .before .before .before .before .args in
+    let pre = c .before .before .before .before .before .before .before .before .pre in
+    let here = children _ (args .numbers .now) (args .ends .now) (args .kinds .now) (args .i) (pre .0 .1 .readable) (pre .1 .0 .0) (pre .1 .1 .1) (pre .0 .2) (omega arith) in
+    omega (arith, here .leftWithin, pre .1 .0 .1)
 
 kind-at-requires-2 : tie.Need-kind-at-requires-2
 kind-at-requires-2 c κs =
-    let args = c .before .before .before .before .before .before .before .before .before .before .before .before .before .before .args in
-    let pre = c .before .before .before .before .before .before .before .before .before .before .before .before .before .before .pre in
-    let inner = inner-place (args .numbers .now) (pre .1) (args .i) (pre .4) (omega arith) in
-    let e : c .right-child .result ≡ endFrom (args .numbers .now) (args .i + 1) = c .right-child .ensures ∙ pre .5 (args .i + 1) (omega arith) (inner .left) in
-    omega (arith, inner .right, pre .8 .long)
+    let args = c .before .before .before .before .before .before .before .before .before .args in
+    let pre = c .before .before .before .before .before .before .before .before .before .pre in
+    let here = children _ (args .numbers .now) (args .ends .now) (args .kinds .now) (args .i) (pre .0 .1 .readable) (pre .1 .0 .0) (pre .1 .1 .1) (pre .0 .2) (omega arith) in
+    omega (arith, c .right-child .ensures, here .rightWithin, pre .1 .1 .1 .long)
 
-next-kind-requires : tie.Need-next-kind-requires
-next-kind-requires c κs =
-    let args = c .before .before .before .before .before .before .before .before .before .before .before .before .before .before .before .before .before .args in
-    let pre = c .before .before .before .before .before .before .before .before .before .before .before .before .before .before .before .before .before .pre in
-    let inner = inner-place (args .numbers .now) (pre .1) (args .i) (pre .4) (omega arith) in
-    let e : c .before .before .before .right-child .result ≡ endFrom (args .numbers .now) (args .i + 1) = c .before .before .before .right-child .ensures ∙ pre .5 (args .i + 1) (omega arith) (inner .left) in
-    let r = pre .0 in
-    let later : args .i + 1 ≤ c .before .before .before .right-child .result = omega arith in
-    let h : c .before .before .before .right-child .result < length (args .numbers .now) = rw e (inner .right) in
-    let left = c .before .before .before .before .kind-at .ensures ∙ pre .8 .kept (args .i + 1) (omega arith) (inner .left) (r .symbols) (r .inputStates) (r .inputMarks) (r .outputMarks) (r .prepared) in
-    let right = c .before .before .kind-at2 .ensures ∙ pre .8 .kept (c .before .before .before .right-child .result) later h (r .symbols) (r .inputStates) (r .inputMarks) (r .outputMarks) (r .prepared) in
-    (r, pre .3 (args .i) (pre .4), rw left (kind-words _ (r .prepared .established) _), rw right (kind-words _ (r .prepared .established) _))
+kind-of-requires : tie.Need-kind-of-requires
+kind-of-requires c κs =
+    let args = c .before .before .before .before .before .before .before .before .before .before .before .before .before .args in
+    let pre = c .before .before .before .before .before .before .before .before .before .before .before .before .before .pre in
+    let here = children _ (args .numbers .now) (args .ends .now) (args .kinds .now) (args .i) (pre .0 .1 .readable) (pre .1 .0 .0) (pre .1 .1 .1) (pre .0 .2) (omega arith) in
+    let known = pre .0 .0 .prepared .established in
+    let left = kind-words _ known _ _ (c .before .before .before .before .before .kind-at .ensures ∙ here .left) in
+    let right = kind-words _ known _ _ ((rw (c .before .before .before .before .right-child .ensures) at (c .before .before .before .kind-at2 .ensures)) ∙ here .right) in
+    (pre .0 .0, omega (arith, pre .0 .1 .below _ (pre .0 .2), known .symbols .≤most), search, search)
 
 returns-2 : tie.Need-returns-2
 returns-2 c =
-    let args = c .before .before .before .before .before .before .before .before .before .before .before .before .before .before .before .before .before .before .args in
-    let pre = c .before .before .before .before .before .before .before .before .before .before .before .before .before .before .before .before .before .before .pre in
-    let inner = inner-place (args .numbers .now) (pre .1) (args .i) (pre .4) (omega arith) in
-    let e : c .before .before .before .before .right-child .result ≡ endFrom (args .numbers .now) (args .i + 1) = c .before .before .before .before .right-child .ensures ∙ pre .5 (args .i + 1) (omega arith) (inner .left) in
-    let later : args .i + 1 ≤ c .before .before .before .before .right-child .result = omega arith in
-    let h : c .before .before .before .before .right-child .result < length (args .numbers .now) = rw e (inner .right) in
-    λ S I inputMarks outputMarks prepared.
-    kind-node _ (getD (args .numbers .now) (args .i) 0) (treeFrom (args .numbers .now) (args .i + 1)) (treeFrom (args .numbers .now) (c .before .before .before .before .right-child .result)) _ _ _
-    (c .before .before .before .before .before .kind-at .ensures ∙ pre .8 .kept (args .i + 1) (omega arith) (inner .left) S I inputMarks outputMarks prepared)
-    (c .before .before .before .kind-at2 .ensures ∙ pre .8 .kept (c .before .before .before .before .right-child .result) later h S I inputMarks outputMarks prepared)
-    (c .next-kind .ensures S I inputMarks outputMarks prepared)
-    ∙ rw (inner .tree, e)
+    let args = c .before .before .before .before .before .before .before .before .before .before .before .before .before .before .args in
+    let pre = c .before .before .before .before .before .before .before .before .before .before .before .before .before .before .pre in
+    let here = children _ (args .numbers .now) (args .ends .now) (args .kinds .now) (args .i) (pre .0 .1 .readable) (pre .1 .0 .0) (pre .1 .1 .1) (pre .0 .2) (omega arith) in
+    c .kind-of .ensures ∙ rw (c .before .before .before .before .before .before .kind-at .ensures, c .before .before .before .before .kind-at2 .ensures, c .before .before .before .before .before .right-child .ensures) (here .joined)
 
 pub kind-of-place-spec : {M : Type 1} → statement M
 kind-of-place-spec =
     tie.close
     (tie.spec
-    mul-t17
-    shared-slice-read-t19
+    mul-t12
+    shared-slice-read-t14
     returns
     add-kind-at
     kind-at-requires
     right-child-requires
     kind-at-requires-2
-    next-kind-requires
+    kind-of-requires
     returns-2)

@@ -1,18 +1,14 @@
 -- Each refusal is the definition's; where nothing is refused the contract is established and the document is read whole, so
--- that the kind is that of its tree.
-use mathlib.Core.Path.{refl, ap, sym, _∙_}
-use Prim.Native.Nat.{_≤_}
+-- that the contract can be prepared and the document judged by it.
+use mathlib.Core.Path.{ap, sym, _∙_}
 use native.Mathlib.Omega.{arith}
-use lib.ListN.{length}
 use borrow.Author.Needs.{needs}
-use Rattle.model.specs.Tables.{Contract, contract}
-use Rattle.answers.specs.Numbers.{admissionAnswer}
-use Rattle.model.proofs.Laws.Admitted.{established}
 use Rattle.model.proofs.Laws.Documents.{document-fine}
+use Rattle.answers.specs.Numbers.{admissionAnswer}
+use Rattle.admission.proofs.Answered.{admitted-fine, admitted-established}
 use Rattle.reading.specs.Answers.{documentVerdict}
-use Rattle.document_kinds.specs.Stored.{kind-six}
-use Rattle.admission.proofs.Answered.{admitted-fine}
-use Rattle.judging.specs.Steps.{refused-contract, refused-buffer, refused-document, judged-document, symbols-of, document-some, written-kind}
+use Rattle.preparing.specs.Packing.{short, room-enough}
+use Rattle.judging.specs.Steps.{refused-contract, refused-buffer, refused-document, judged-document, document-in}
 use Rattle.judging.proofs.judge.Statement.{statement}
 use Rattle.judging.proofs.judge.Tie as tie
 
@@ -29,7 +25,7 @@ enum-told : tie.Need-enum-told
 enum-told c = search needs
 
 returns-2 : tie.Need-returns-2
-returns-2 c = refused-buffer _ _ _ (admitted-fine _ _ (c .before .enum-told .given .1) (c .before .before .before .admit .ensures)) (c .if1 .taken)
+returns-2 c = refused-buffer _ _ _ (admitted-fine _ _ (c .before .enum-told .given .1) (c .before .before .before .admit .ensures)) (λ e. omega arith)
 
 document-requires : tie.Need-document-requires
 document-requires c κs = search needs
@@ -38,40 +34,56 @@ enum-known-reading : tie.Need-enum-known-reading
 enum-known-reading c = search needs
 
 returns-3 : tie.Need-returns-3
-returns-3 c = refused-document _ _ _ (admitted-fine _ _ (c .before .before .before .before .before .enum-told .given .1) (c .before .before .before .before .before .before .before .admit .ensures)) (c .before .before .before .before .if1 .left) (c .before .reading .given .0 .0) (sym (ap documentVerdict (c .before .reading .given .1)) ∙ c .before .before .before .document .ensures)
+returns-3 c = refused-document _ _ _ (admitted-fine _ _ (c .before .before .before .before .before .enum-told .given .1) (c .before .before .before .before .before .before .before .admit .ensures)) (omega arith) (c .before .reading .given .0 .0) (sym (ap documentVerdict (c .before .reading .given .1)) ∙ c .before .before .before .document .ensures)
 
 enum-told-2 : tie.Need-enum-told-2
 enum-told-2 c = search needs
 
-tree-kind-requires : tie.Need-tree-kind-requires
-tree-kind-requires c κs = let a = c .before .before .before .before .before .before .before .before .before .before .before .before .before .before .before .before .args in
-    let C : Contract = contract (a .symbols) (a .input-states) (a .output-states) (a .counts .now) (a .input-rows .now) (a .input-marks .now) (a .output-table .now) (a .output-marks .now) (a .nodes .now) (a .rules .now) in
-    let known = established C (admitted-fine _ C (c .before .before .before .before .enum-told .given .1) (c .before .before .before .before .before .before .admit .ensures)) in
-    let d = document-fine (a .symbols) (a .numbers .now) (sym (c .before .before .document .ensures) ∙ ap documentVerdict (c .enum-told2 .given .1)) in
-    (record { symbols = a .symbols; inputStates = a .input-states; inputMarks = a .input-marks .now; outputMarks = a .output-marks .now; established = known }, d .readable, document-some _ _ d, d .few, symbols-of (a .symbols) (a .numbers .now) (known .symbols .≤most) (d .below))
+table-length-requires : tie.Need-table-length-requires
+table-length-requires c κs = short _ (admitted-established _ _ (c .before .before .before .before .enum-told .given .1) (c .before .before .before .before .before .before .admit .ensures))
 
-write-kind-requires : tie.Need-write-kind-requires
-write-kind-requires c κs = let a = c .before .before .before .before .before .before .before .before .before .before .before .before .before .before .before .before .before .before .before .args in
-    let C : Contract = contract (a .symbols) (a .input-states) (a .output-states) (a .counts .now) (a .input-rows .now) (a .input-marks .now) (a .output-table .now) (a .output-marks .now) (a .nodes .now) (a .rules .now) in
-    let known = established C (admitted-fine _ C (c .before .before .before .before .before .before .before .enum-told .given .1) (c .before .before .before .before .before .before .before .before .before .admit .ensures)) in
-    (c .before .before .before .before .before .before .if1 .left, ap length (c .before .before .tree-kind .ensures _ _ _ _ known) ∙ kind-six _ _)
+slice-aggregate-prepare : tie.Need-slice-aggregate-prepare
+slice-aggregate-prepare c = search needs
 
-judgement-of-requires : tie.Need-judgement-of-requires
-judgement-of-requires c κs = let a = c .before .before .before .before .before .before .before .before .before .before .before .before .before .before .before .before .before .before .before .before .before .before .before .args in
-    let C : Contract = contract (a .symbols) (a .input-states) (a .output-states) (a .counts .now) (a .input-rows .now) (a .input-marks .now) (a .output-table .now) (a .output-marks .now) (a .nodes .now) (a .rules .now) in
-    let known = established C (admitted-fine _ C (c .before .before .before .before .before .before .before .before .before .before .before .enum-told .given .1) (c .before .before .before .before .before .before .before .before .before .before .before .before .before .admit .ensures)) in
-    (omega (arith, known .inputMarks, known .inputStates .≤most), omega (arith, known .outputMarks, known .outputStates .≤most))
+prepare-requires : tie.Need-prepare-requires
+prepare-requires c κs = (admitted-established _ _ (c .before .before .before .before .before .before .before .before .before .enum-told .given .1) (c .before .before .before .before .before .before .before .before .before .before .before .admit .ensures), omega (arith, c .before .before .before .before .table-length .ensures), omega arith)
+
+slice-aggregate-judge-prepared : tie.Need-slice-aggregate-judge-prepared
+slice-aggregate-judge-prepared c = search needs
+
+judge-prepared-requires : tie.Need-judge-prepared-requires
+judge-prepared-requires c κs =
+    let made = c .before .before .before .prepare .ensures in
+    (made .ready, document-in _ _ _ (made .contract) (document-fine _ _ (sym (c .before .before .before .before .before .before .before .before .before .before .before .document .ensures) ∙ ap documentVerdict (c .before .before .before .before .before .before .before .before .before .enum-told2 .given .1))), omega (arith, c .before .before .before .before .before .before .before .before .before .before .before .before .if1 .left))
 
 same-length : tie.Need-same-length
 same-length c = search needs
 
 returns-4 : tie.Need-returns-4
-returns-4 c = let a = c .before .before .before .before .before .before .before .before .before .before .before .before .before .before .before .before .before .before .before .before .before .before .before .before .args in
-    let C : Contract = contract (a .symbols) (a .input-states) (a .output-states) (a .counts .now) (a .input-rows .now) (a .input-marks .now) (a .output-table .now) (a .output-marks .now) (a .nodes .now) (a .rules .now) in
-    let fine-contract = admitted-fine _ C (c .before .before .before .before .before .before .before .before .before .before .before .before .enum-told .given .1) (c .before .before .before .before .before .before .before .before .before .before .before .before .before .before .admit .ensures) in
-    let known = established C fine-contract in
-    let done = judged-document C (a .numbers .now) (a .kind .now) fine-contract (c .before .before .before .before .before .before .before .before .before .before .before .if1 .left) (sym (ap documentVerdict (c .before .before .before .before .before .before .before .before .enum-told2 .given .1)) ∙ c .before .before .before .before .before .before .before .before .before .before .document .ensures) _ (written-kind C (a .numbers .now) (c .before .before .before .before .before .before .before .tree-kind .result) (c .before .before .before .before .before .before .before .tree-kind .ensures _ _ _ _ known)) in
-    record { answers = c .judgement-of .ensures C known refl refl ∙ done .answers; closes = c .before .before .before .before .write-kind .ensures ∙ done .closes }
+returns-4 c = judged-document _ _ _ (admitted-fine _ _ (c .before .before .before .before .before .before .before .before .before .before .before .before .before .before .before .before .enum-told .given .1) (c .before .before .before .before .before .before .before .before .before .before .before .before .before .before .before .before .before .before .admit .ensures)) (omega (arith, c .before .before .before .before .before .before .before .before .before .before .before .before .before .before .before .if1 .left)) (sym (c .before .before .before .before .before .before .before .before .before .before .before .before .before .before .document .ensures) ∙ ap documentVerdict (c .before .before .before .before .before .before .before .before .before .before .before .before .enum-told2 .given .1)) _ (c .before .before .before .before .before .before .prepare .ensures .contract) (c .before .before .judge-prepared .ensures)
+
+most-table-requires : tie.Need-most-table-requires
+most-table-requires c κs = search needs
+
+slice-aggregate-prepare-2 : tie.Need-slice-aggregate-prepare-2
+slice-aggregate-prepare-2 c = search needs
+
+prepare-requires-2 : tie.Need-prepare-requires-2
+prepare-requires-2 c κs = let known = admitted-established _ _ (c .before .before .before .before .before .before .before .before .before .before .enum-told .given .1) (c .before .before .before .before .before .before .before .before .before .before .before .before .admit .ensures) in (known, omega (arith, room-enough _ known), omega arith)
+
+slice-aggregate-judge-prepared-2 : tie.Need-slice-aggregate-judge-prepared-2
+slice-aggregate-judge-prepared-2 c = search needs
+
+judge-prepared-requires-2 : tie.Need-judge-prepared-requires-2
+judge-prepared-requires-2 c κs =
+    let made = c .before .before .before .prepare2 .ensures in
+    (made .ready, document-in _ _ _ (made .contract) (document-fine _ _ (sym (c .before .before .before .before .before .before .before .before .before .before .before .before .document .ensures) ∙ ap documentVerdict (c .before .before .before .before .before .before .before .before .before .before .enum-told2 .given .1))), omega (arith, c .before .before .before .before .before .before .before .before .before .before .before .before .before .if1 .left))
+
+same-length-2 : tie.Need-same-length-2
+same-length-2 c = search needs
+
+returns-5 : tie.Need-returns-5
+returns-5 c = judged-document _ _ _ (admitted-fine _ _ (c .before .before .before .before .before .before .before .before .before .before .before .before .before .before .before .before .before .enum-told .given .1) (c .before .before .before .before .before .before .before .before .before .before .before .before .before .before .before .before .before .before .before .admit .ensures)) (omega (arith, c .before .before .before .before .before .before .before .before .before .before .before .before .before .before .before .before .if1 .left)) (sym (c .before .before .before .before .before .before .before .before .before .before .before .before .before .before .before .document .ensures) ∙ ap documentVerdict (c .before .before .before .before .before .before .before .before .before .before .before .before .before .enum-told2 .given .1)) _ (c .before .before .before .before .before .before .prepare2 .ensures .contract) (c .before .before .judge-prepared2 .ensures)
 
 pub judge-spec : {M : Type 1} → statement M
 judge-spec =
@@ -86,8 +98,17 @@ judge-spec =
     enum-known-reading
     returns-3
     enum-told-2
-    tree-kind-requires
-    write-kind-requires
-    judgement-of-requires
+    table-length-requires
+    slice-aggregate-prepare
+    prepare-requires
+    slice-aggregate-judge-prepared
+    judge-prepared-requires
     same-length
-    returns-4)
+    returns-4
+    most-table-requires
+    slice-aggregate-prepare-2
+    prepare-requires-2
+    slice-aggregate-judge-prepared-2
+    judge-prepared-requires-2
+    same-length-2
+    returns-5)
