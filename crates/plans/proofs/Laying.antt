@@ -54,6 +54,7 @@ module _ (counts nodes rules numbers ends sides : List ℕ)
   pub laid : Sides rules sides → Laid counts nodes rules numbers ends t₅
   laid right =
       record {
+        size = size-written t₄ t₅ (take (length numbers) ends) endsPlace e₅ n₄ (omega (arith, ends-taken));
         count = λ p h.
             below-nodes p (omega arith)
             ∙ kept t₁ t₂ sides sidesPlace e₂ n₁ (omega arith) p (omega arith)

@@ -56,6 +56,7 @@ planNode plan k =
 
 -- the tables that a plan has
 pub record Laid (counts nodes rules numbers ends plan : List ℕ) : Type 0 where
+  pub size : length plan ≡ planLength
   pub count : (p : ℕ) → p < length counts → getD plan p 0 ≡ countOf counts p
   pub side : (p s : ℕ) → p < 16 → s < 16 → getD plan (sidesPlace + (16 * p + s)) 0 ≡ sideAt rules (firstRule rules p s)
   pub node : (k : ℕ) → k < nodeCount nodes → planNode plan k ≡ nodeAt nodes k

@@ -10,13 +10,13 @@ use lib.ListN.{length, getD}
 use borrow.Author.Tests.{lt-ltb, le-ltb, eq-eqb, ne-eqb, eqb-false, ltb-true, ltb-false}
 use Rattle.foundation.specs.Tests.{choose}
 use Rattle.foundation.specs.Search.{first}
-use Rattle.model.specs.Trees.{node, rootSymbol}
+use Rattle.model.specs.Trees.{node, rootSymbol, height}
 use Rattle.model.specs.Rows.{rowCount}
 use Rattle.model.specs.Tables.{Transformation, Node, ruleAt, ruleCount, countOf}
 use Rattle.model.specs.Expressions.{left, right}
 use Rattle.model.specs.Facts.{onSide}
 use Rattle.model.specs.Running.{_after_, mostCalls, addRow, countCall, seekRule, runAt, runOn}
-use Rattle.model.proofs.Laws.Documents.{treeFrom, endFrom, InnerPlace, inner-place, leaf-place}
+use Rattle.model.proofs.Laws.Documents.{treeFrom, endFrom, InnerPlace, inner-heights, inner-place, leaf-place}
 use Rattle.tables.specs.declared.Procedure.{Procedure}
 use Rattle.running.specs.declared.Tally.{Tally}
 use Rattle.running.specs.declared.Outcome.{Outcome}
@@ -26,6 +26,7 @@ use Rattle.model.proofs.Laws.Rules.{firstRule, first-fits}
 use Rattle.plans.specs.Plans.{sidesPlace, numbersPlace, sideAt, Laid}
 use Rattle.running.specs.Work.{workOf, stepOf, operandCount, planOperands, childPlace, planChild}
 use Rattle.running.specs.Contracts.{Plan, ApplicableIn, CallableIn, EvaluableIn, Evaluable, applied, childRuns, Evaluates, Applies, Calls, transformationOf}
+use Rattle.running.proofs.Heights.{planHeight, plan-height}
 use Rattle.running.proofs.Steps.{run-root}
 
 -- the root symbol of the tree at a place stands there
@@ -86,20 +87,23 @@ module _ {plan : List ℕ} {place : ℕ} {n : Node} (asked : ApplicableIn plan p
       place-of : there ≡ childPlace ends place (n .child)
       place-of = found ∙ child-read (asked .known .laid) place (n .child) left-inside
 
-      -- a child stands behind its parent, within the document
-      pub child-behind : place < there
-      child-behind = rw place-of (go (eqb (n .child) 1))
-        where
-          go : (b : Bool) → place < choose b (place + 1) (getD ends (place + 1) 0)
-          go true = omega arith
-          go false = omega (arith, right-end)
-
+      -- a child stands within the document, and its tree is lower
       pub child-inside : there < length numbers
       child-inside = rw place-of (go (eqb (n .child) 1))
         where
           go : (b : Bool) → choose b (place + 1) (getD ends (place + 1) 0) < length numbers
           go true = inner .left
           go false = rw right-end (inner .right)
+
+      pub child-lower : planHeight plan there < planHeight plan place
+      child-lower = rw (plan-height (asked .known) there child-inside, plan-height (asked .known) place (asked .able .inside), place-of) (go (eqb (n .child) 1))
+        where
+          lower : (height (treeFrom numbers (place + 1)) < height (treeFrom numbers place)) × (height (treeFrom numbers (endFrom numbers (place + 1))) < height (treeFrom numbers place))
+          lower = inner-heights numbers place (place + 1) inner
+
+          go : (b : Bool) → height (treeFrom numbers (choose b (place + 1) (getD ends (place + 1) 0))) < height (treeFrom numbers place)
+          go true = lower .0
+          go false = rw right-end (lower .1)
 
       -- so the procedure can be called there
       abbrev pub child-callable : CallableIn plan there (n .name)

@@ -1,9 +1,8 @@
 // Running a transformation on a document: document 01's order of work, its tally and its rows.
 //
-// Calling a procedure evaluates its right side, and evaluating calls procedures on the children: the place in the document
-// goes forward at each call, the node number falls at each evaluation. What the work reads stands in one plan, so that a step
-// of it is small. The steps take the tally by value and give it back; over them, `start_lent` takes it lent, and `start_anew`
-// lends it one.
+// Calling a procedure evaluates its right side, and evaluating calls procedures on the children: the height of the tree falls
+// at each call, the node number at each evaluation. What the work reads stands in one plan, so that a step of it is small. The
+// steps take the tally by value and give it back; over them, `start_lent` takes it lent, and `start_anew` lends it one.
 ghost use mathlib.Core.Path.{_≡_};
 ghost use Prim.Native.Nat.{_+_, _<_, _≤_};
 ghost use lib.ListN.{length, take};

@@ -10,7 +10,7 @@ use native.Mathlib.Omega.{arith}
 use borrow.Author.Tests.{ltb-false, leb-true, leb-false, ne-eqb, lt-leb, le-leb, le-ltb}
 use lib.Dec.{leb, eqb}
 use lib.ListN.{length, getD, take, drop, length-append, length-drop}
-use lib.Seq.{drop-cons, take-length, take-append-seam, drop-append-seam, drop-drop}
+use lib.Seq.{drop-cons, take-length, take-append-seam, drop-append-seam, drop-append-le, drop-drop}
 use Rattle.foundation.specs.Tests.{choose}
 use Rattle.foundation.specs.Lists.{append-nil}
 use Rattle.model.specs.Trees.{Tree, empty, node, height, Over, preorder}
@@ -348,6 +348,20 @@ module _ (xs : List ℕ) (readable : Readable xs) where
       go : (ts : List Tree) → forest (drop i xs) ≡ ts → endFrom xs i ≤ length xs
       go [] e = absurd (some-tree i h e)
       go (t ∷ ts) e = forest-split i t ts e .0
+
+  -- the tree at a place is the same, whatever stands behind the numbers
+  pub tree-followed : (rest : List ℕ) (i : ℕ) → i < length xs → treeFrom (xs ++ rest) i ≡ treeFrom xs i
+  unfolding preorders
+  tree-followed rest i h = go (forest (drop i xs)) refl
+    where
+      go : (ts : List Tree) → forest (drop i xs) ≡ ts → treeFrom (xs ++ rest) i ≡ treeFrom xs i
+      go [] e = absurd (some-tree i h e)
+      go (t ∷ ts) e =
+          let r : preorder t ++ preorders ts ≡ drop i xs = rw e at (readable-drop i xs readable) in
+          let p : (Proper t) × All Proper ts = rw e at (forest-proper (drop i xs)) in
+          let d : drop i (xs ++ rest) ≡ preorder t ++ (preorders ts ++ rest) =
+          drop-append-le i xs rest (omega arith) ∙ ap (λ (l : List ℕ). l ++ rest) (sym r) ∙ append-assoc (preorder t) (preorders ts) rest in
+          ap firstTree (ap forest d ∙ forest-preorder t (preorders ts ++ rest) (p .0)) ∙ sym (ap firstTree e)
 
   pub inner-place : (i : ℕ) → i < length xs → 1 ≤ getD xs i 0 → InnerPlace xs i (i + 1)
   unfolding forest joined preorder

@@ -1,13 +1,14 @@
--- Evaluating, applying and calling meet their contracts. The measure: a place nearer the end counts more than any node, so
--- a call to a child falls by its place and the evaluation of an operand by its node. What each answer is, the lemmas of
--- Evaluating and Calling say, one for each place at which the code returns.
+-- Evaluating, applying and calling meet their contracts. The measure is the height of the tree paired with the node number,
+-- as one number in which the height counts more than any node: a call to a child falls by the height, the evaluation of an
+-- operand by the node. What each answer is, the lemmas of Evaluating and Calling say, one for each place at which the code returns.
 use mathlib.Core.Path.{_≡_, refl, sym, _∙_}
 use native.Mathlib.Omega.{arith}
 use lib.ListN.{length}
 use Rattle.tables.specs.Tuples.{nodeOf}
 use Rattle.running.specs.Work.{operandCount}
+use Rattle.running.proofs.Heights.{planHeight}
 use Rattle.running.proofs.Evaluating.{parameter-evaluated, none-evaluated, first-stopped, one-evaluated, second-stopped, two-evaluated, applicable, first-evaluable, second-evaluable, first-falls, second-falls, nonzero, above-one}
-use Rattle.running.proofs.Calling.{row-applied, call-applied, left-inside, child-behind, child-callable, operands-read, symbol-small, too-many, no-rule, called, side-evaluable}
+use Rattle.running.proofs.Calling.{row-applied, call-applied, left-inside, child-lower, child-callable, operands-read, symbol-small, too-many, no-rule, called, side-evaluable}
 use Prim.Native.Nat.{ℕ, _+_, _*_, _-_, _<_}
 use borrow.Fn.Kinds.{In}
 use borrow.Fn.PlainCycle.{Measures, is, falls, and}
@@ -32,13 +33,13 @@ use Rattle.running.proofs.+apply+call+evaluate.{statement}
 use Rattle.running.proofs.+apply+call+evaluate.Tie.{close}
 
 abbrev μ-apply : Measures 2 apply-kinds.ps ℕ
-μ-apply κs a = (1024 - a .1 .1 .0) * 512
+μ-apply κs a = planHeight (a .0 .now) (a .1 .1 .0) * 512
 
 abbrev μ-call : Measures 2 call-kinds.ps ℕ
-μ-call κs a = (1024 - a .1 .1 .0) * 512 + 300
+μ-call κs a = planHeight (a .0 .now) (a .1 .1 .0) * 512 + 300
 
 abbrev μ-evaluate : Measures 2 evaluate-kinds.ps ℕ
-μ-evaluate κs a = (1024 - a .1 .1 .0) * 512 + a .1 .0 + 1
+μ-evaluate κs a = planHeight (a .0 .now) (a .1 .1 .0) * 512 + a .1 .0 + 1
 
 abbrev apply-at : ℕ → In 2 apply-kinds.ps
 apply-at t = and 2 apply-kinds.ps (is 2 apply-kinds.ps μ-apply t) apply.Pre
@@ -116,10 +117,9 @@ apply-call-requires : (t : ℕ) → apply-lts.Need-call-requires (
 apply-call-requires t c κs =
     let s = c .before .before .before .before .before .args in
     let asked = c .before .before .before .before .before .pre .1 .0 in
-    let few = asked .known .text .read .few in
-    let behind = child-behind asked (c .before .before .if1 .left) (c .before .child-place .result) (c .before .child-place .ensures) in
+    let lower = child-lower asked (c .before .before .if1 .left) (c .before .child-place .result) (c .before .child-place .ensures) in
     let callable = child-callable asked (c .before .before .if1 .left) (c .before .child-place .result) (c .before .child-place .ensures) in
-    (omega (arith, c .before .before .before .before .before .pre .0, callable .inside), (callable, c .before .before .before .before .before .pre .1 .1))
+    (omega (arith, c .before .before .before .before .before .pre .0, lower), (callable, c .before .before .before .before .before .pre .1 .1))
 
 apply-same-length-2 : (t : ℕ) → apply-lts.Need-same-length-2 (
   add-row-reads.Asked,
