@@ -5,13 +5,15 @@ use mathlib.Core.List.{List}
 use Prim.Native.Nat.{ℕ}
 use borrow.Author.Tests.{eq-eqb, ne-eqb}
 use Rattle.foundation.specs.Tests.{choose}
-use Rattle.kind_lists.specs.Listing.{kindListed, breaking, withRow, withKind, Offering, Becomes, offering}
+use Rattle.breaking.specs.Verdicts.{breaking}
+use Rattle.breaking.specs.declared.Verdicts.{Verdicts}
+use Rattle.kind_lists.specs.Listing.{kindListed, withRow, withKind, Offering, Becomes, offering}
 use Rattle.kind_lists.specs.declared.listing.Offered.{Offered}
 use Rattle.kind_lists.specs.declared.listing.Offered.the-variants as offered
 
-module _ (accepted refused limit n symbol left right : ℕ) (kind rows words : List ℕ) where
+module _ (v : Verdicts) (limit n symbol left right : ℕ) (kind rows words : List ℕ) where
   abbrev pub outcome : Offering
-  outcome = offering accepted refused limit n symbol left right kind rows words
+  outcome = offering v limit n symbol left right kind rows words
 
   pub offer-old : kindListed words n kind ≡ true → Becomes outcome offered.Old rows words
   unfolding offering
@@ -22,7 +24,7 @@ module _ (accepted refused limit n symbol left right : ℕ) (kind rows words : L
   offer-full e f = let full = eq-eqb n limit f in record { answer = rw (e, full); rows = rw (e, full); words = rw (e, full) }
 
   -- the answer where there is a row left
-  pub offer-stored : kindListed words n kind ≡ false → (n ≡ limit → ⊥) → (b : Bool) → breaking accepted refused kind ≡ b → (answer : Offered)
+  pub offer-stored : kindListed words n kind ≡ false → (n ≡ limit → ⊥) → (b : Bool) → breaking (v .accepted) (v .refused) kind ≡ b → (answer : Offered)
       → answer ≡ choose b offered.Breaks offered.New
       → Becomes outcome answer (withRow rows n symbol left right) (withKind words n kind)
   unfolding offering

@@ -9,6 +9,7 @@ use Rattle.foundation.specs.Tests.{choose}
 use Rattle.foundation.specs.Search.{first}
 use Rattle.foundation.specs.Lists.{zeroFilled}
 use Rattle.breaking.specs.Verdicts.{breaking}
+use Rattle.breaking.specs.declared.Verdicts.{Verdicts}
 use Rattle.kind_lists.specs.declared.listing.Found.{Found}
 use Rattle.kind_lists.specs.declared.listing.Found.the-variants as found
 use Rattle.kind_lists.specs.declared.listing.Offered.{Offered}
@@ -76,12 +77,12 @@ pub record Becomes (told : Offering) (r : Offered) (rowsAfter wordsAfter : List 
   pub words : wordsAfter ≡ told .words
 
 -- a kind with its row is offered to a list of n rows
-unfoldable pub offering : (accepted refused limit n symbol left right : ℕ) → (kind rows words : List ℕ) → Offering
-offering accepted refused limit n symbol left right kind rows words =
+unfoldable pub offering : (v : Verdicts) (limit n symbol left right : ℕ) → (kind rows words : List ℕ) → Offering
+offering v limit n symbol left right kind rows words =
     choose (kindListed words n kind) (record { answer = offered.Old; rows = rows; words = words })
     (choose (eqb n limit) (record { answer = offered.Full; rows = rows; words = words })
     (record {
-      answer = choose (breaking accepted refused kind) offered.Breaks offered.New;
+      answer = choose (breaking (v .accepted) (v .refused) kind) offered.Breaks offered.New;
       rows = withRow rows n symbol left right;
       words = withKind words n kind;
     }))

@@ -15,14 +15,15 @@ use Rattle.model.specs.Checking.{rowNumbers, kindNumbers}
 use Rattle.model.proofs.Laws.Established.{Established}
 use Rattle.model.proofs.Rounds.Growth.{rounds-beginning}
 use Rattle.model.proofs.Rounds.Buffers.{length-empty-kind}
-use Rattle.kind_lists.specs.Listing.{Room, kindPlace, breaking, withRow, withKind, Offering, offering}
-use Rattle.kind_lists.specs.Held.{Holds, stored-held}
-use Rattle.kind_lists.specs.Verdicts.{VerdictsFor, breaking-is}
+use Rattle.breaking.specs.Verdicts.{breaking, VerdictsOf}
+use Rattle.breaking.specs.declared.Verdicts.{Verdicts}
+use Rattle.kind_lists.specs.Listing.{Room, kindPlace, withRow, withKind, Offering, offering}
+use Rattle.kind_lists.specs.Held.{Holds, stored-held, breaks-padded}
 use Rattle.kind_lists.specs.Steps.{progressOf, Outcome, Broken}
 use Rattle.kind_lists.specs.Between.{Between}
 use Rattle.kind_lists.specs.declared.listing.Offered.the-variants as offered
 
-module _ (C : Contract) (known : Established C) (accepted refused : ℕ) (verdicts : VerdictsFor C accepted refused) (limit : ℕ)
+module _ (C : Contract) (known : Established C) (v : Verdicts) (verdicts : VerdictsOf (C .input .marks) (C .output .marks) v) (limit : ℕ)
     (rows words : List ℕ) (room : Room limit 0 rows words) (some : 1 ≤ limit) where
   abbrev kind : List ℕ
   kind = emptyKind C
@@ -50,10 +51,10 @@ module _ (C : Contract) (known : Established C) (accepted refused : ℕ) (verdic
   unfolding rounds
   one = refl
 
-  verdict : (b : Bool) → breaking accepted refused (kind ++ (0 ∷ [])) ≡ b → breaks C (kindAt C (rounds (kindAutomaton C) 0) 0) ≡ b
-  verdict b e = ap (λ (k : List ℕ). breaks C k) first-kind ∙ sym (breaking-is C known accepted refused verdicts kind (length-empty-kind C)) ∙ e
+  verdict : (b : Bool) → breaking (v .accepted) (v .refused) (kind ++ (0 ∷ [])) ≡ b → breaks C (kindAt C (rounds (kindAutomaton C) 0) 0) ≡ b
+  verdict b e = ap (λ (k : List ℕ). breaks C k) first-kind ∙ sym (breaks-padded C known v verdicts kind (length-empty-kind C)) ∙ e
 
-  broken : breaking accepted refused (kind ++ (0 ∷ [])) ≡ true → Broken C limit 0 rows′ words′
+  broken : breaking (v .accepted) (v .refused) (kind ++ (0 ∷ [])) ≡ true → Broken C limit 0 rows′ words′
   broken e =
       record {
         list = rounds (kindAutomaton C) 0;
@@ -64,7 +65,7 @@ module _ (C : Contract) (known : Established C) (accepted refused : ℕ) (verdic
         none = record { keeps = λ i l h. absurd (omega arith) };
       }
 
-  goes-on : breaking accepted refused (kind ++ (0 ∷ [])) ≡ false → Between C limit 0 (0 + 1) rows′ words′
+  goes-on : breaking (v .accepted) (v .refused) (kind ++ (0 ∷ [])) ≡ false → Between C limit 0 (0 + 1) rows′ words′
   goes-on e =
       record {
         height = 0;
@@ -76,14 +77,14 @@ module _ (C : Contract) (known : Established C) (accepted refused : ℕ) (verdic
         ended = λ z. absurd (omega arith);
       }
 
-  by-verdict : (b : Bool) → breaking accepted refused (kind ++ (0 ∷ [])) ≡ b
+  by-verdict : (b : Bool) → breaking (v .accepted) (v .refused) (kind ++ (0 ∷ [])) ≡ b
       → Outcome C (λ n. Between C limit 0 n rows′ words′) limit rows′ words′ (progressOf (choose b offered.Breaks offered.New) 0)
   by-verdict true e = broken e
   by-verdict false e = goes-on e
 
   abbrev offer : Offering
-  offer = offering accepted refused limit 0 0 0 0 (kind ++ (0 ∷ [])) rows words
+  offer = offering v limit 0 0 0 0 (kind ++ (0 ∷ [])) rows words
 
   pub started : Outcome C (λ n. Between C limit 0 n (offer .rows) (offer .words)) limit (offer .rows) (offer .words) (progressOf (offer .answer) 0)
   unfolding offering kindPlace first
-  started = rw (ne-eqb 0 limit (λ e. omega arith)) (by-verdict (breaking accepted refused (kind ++ (0 ∷ []))) refl)
+  started = rw (ne-eqb 0 limit (λ e. omega arith)) (by-verdict (breaking (v .accepted) (v .refused) (kind ++ (0 ∷ []))) refl)

@@ -23,9 +23,10 @@ use Rattle.model.proofs.Rounds.Covering.{HasState, has-later, kinds-decided}
 use Rattle.model.proofs.Rounds.Skipping.{step, skip-pair, skip-right, skip-left, added-listed, same-left-listed, same-right-listed}
 use Rattle.model.specs.Meaning.{NoneBreaks}
 use Rattle.model.proofs.Rounds.Buffers.{FiveWords, beginning-five, length-next-kind}
-use Rattle.kind_lists.specs.Listing.{kindListed, breaking, withRow, withKind, Offering, Becomes, offering}
-use Rattle.kind_lists.specs.Held.{kindIn, Holds, kind-held, listed-has, not-listed, stored-held}
-use Rattle.kind_lists.specs.Verdicts.{VerdictsFor, breaking-is}
+use Rattle.breaking.specs.Verdicts.{breaking, VerdictsOf}
+use Rattle.breaking.specs.declared.Verdicts.{Verdicts}
+use Rattle.kind_lists.specs.Listing.{kindListed, withRow, withKind, Offering, Becomes, offering}
+use Rattle.kind_lists.specs.Held.{kindIn, Holds, kind-held, listed-has, not-listed, stored-held, breaks-padded}
 use Rattle.kind_lists.specs.declared.listing.Offered.{Offered}
 use Rattle.kind_lists.specs.declared.listing.Offered.the-variants as offered
 use Rattle.kind_lists.specs.declared.loops.Progress.{Progress}
@@ -175,7 +176,7 @@ module _ (C : Contract) where
         (ap (λ (c : ℕ). roundTo (kindAutomaton C) standing c) (rw (add-one s, q, z) (place-next-symbol (length standing) s (at .symbol))))
 
     -- a pair is visited: its kind is offered
-    module _ (known : Established C) (accepted refused : ℕ) (verdicts : VerdictsFor C accepted refused) (hS : s < C .transformation .symbols)
+    module _ (known : Established C) (v : Verdicts) (verdicts : VerdictsOf (C .input .marks) (C .output .marks) v) (hS : s < C .transformation .symbols)
         (hi : i < stood) (hj : j < stood) where
       abbrev pub pairKind : List ℕ
       pairKind = nextKind C s (kindAt C standing i) (kindAt C standing j)
@@ -187,7 +188,7 @@ module _ (C : Contract) where
       newRow = record { symbol = s; left = i; right = j; state = pairKind }
 
       abbrev offer : Offering
-      offer = offering accepted refused limit n s i j (pairKind ++ (0 ∷ [])) rows words
+      offer = offering v limit n s i j (pairKind ++ (0 ∷ [])) rows words
 
       after : listAt (at .inRound .height) s i (j + 1) ≡ Rattle.model.specs.Rounds.added (kindAutomaton C) list newRow
       after =
@@ -272,18 +273,18 @@ module _ (C : Contract) where
               let fits = at .holds .fits in
               rw (grown, counted) (stored-held C limit rows words list (at .holds) words-five pairKind long s i j (omega arith))
 
-          breaks-now : breaking accepted refused (pairKind ++ (0 ∷ [])) ≡ true → Broken limit n (withRow rows n s i j) (withKind words n (pairKind ++ (0 ∷ [])))
+          breaks-now : breaking (v .accepted) (v .refused) (pairKind ++ (0 ∷ [])) ≡ true → Broken limit n (withRow rows n s i j) (withKind words n (pairKind ++ (0 ∷ [])))
           breaks-now b =
               record {
                 list = listAt (at .inRound .height) s i (j + 1);
                 beginning = then-begins;
                 last = longer ∙ add-one n;
                 holds = held;
-                broken = ap (λ (kind : List ℕ). breaks C kind) last-row ∙ sym (breaking-is C known accepted refused verdicts pairKind long) ∙ b;
+                broken = ap (λ (kind : List ℕ). breaks C kind) last-row ∙ sym (breaks-padded C known v verdicts pairKind long) ∙ b;
                 none = front-keeps;
               }
 
-          goes-on : breaking accepted refused (pairKind ++ (0 ∷ [])) ≡ false → Next (withRow rows n s i j) (withKind words n (pairKind ++ (0 ∷ []))) (n + 1)
+          goes-on : breaking (v .accepted) (v .refused) (pairKind ++ (0 ∷ [])) ≡ false → Next (withRow rows n s i j) (withKind words n (pairKind ++ (0 ∷ []))) (n + 1)
           goes-on b =
               record {
                 inRound = at .inRound;
@@ -296,14 +297,14 @@ module _ (C : Contract) where
               keeps : (k : ℕ) → k < n + 1 → k < length (listAt (at .inRound .height) s i (j + 1)) → Dec (k ≡ n)
                   → breaks C (kindAt C (listAt (at .inRound .height) s i (j + 1)) k) ≡ false
               keeps k h l (yes e) =
-                  rw e (ap (λ (kind : List ℕ). breaks C kind) last-row ∙ sym (breaking-is C known accepted refused verdicts pairKind long) ∙ b)
+                  rw e (ap (λ (kind : List ℕ). breaks C kind) last-row ∙ sym (breaks-padded C known v verdicts pairKind long) ∙ b)
               keeps k h l (no ne) = front-keeps .keeps k (omega arith) l
 
       pub visited : Outcome (Next (offer .rows) (offer .words)) limit (offer .rows) (offer .words) (progressOf (offer .answer) n)
       unfolding offering
       visited = by-list (kindListed words n (pairKind ++ (0 ∷ []))) refl
         where
-          by-verdict : kindListed words n (pairKind ++ (0 ∷ [])) ≡ false → (n ≡ limit → ⊥) → (b : Bool) → breaking accepted refused (pairKind ++ (0 ∷ [])) ≡ b
+          by-verdict : kindListed words n (pairKind ++ (0 ∷ [])) ≡ false → (n ≡ limit → ⊥) → (b : Bool) → breaking (v .accepted) (v .refused) (pairKind ++ (0 ∷ [])) ≡ b
               → Outcome (Next (withRow rows n s i j) (withKind words n (pairKind ++ (0 ∷ [])))) limit (withRow rows n s i j) (withKind words n (pairKind ++ (0 ∷ [])))
               (progressOf (choose b offered.Breaks offered.New) n)
           by-verdict t room true e = breaks-now t room e
@@ -312,7 +313,7 @@ module _ (C : Contract) where
           by-room : kindListed words n (pairKind ++ (0 ∷ [])) ≡ false → (b : Bool) → eqb n limit ≡ b
               → Outcome (Next (offer .rows) (offer .words)) limit (offer .rows) (offer .words) (progressOf (offer .answer) n)
           by-room t true e = rw (t, e) (no-room t (eqb-true n limit e))
-          by-room t false e = rw (t, e) (by-verdict t (eqb-false n limit e) (breaking accepted refused (pairKind ++ (0 ∷ []))) refl)
+          by-room t false e = rw (t, e) (by-verdict t (eqb-false n limit e) (breaking (v .accepted) (v .refused) (pairKind ++ (0 ∷ []))) refl)
 
           by-list : (b : Bool) → kindListed words n (pairKind ++ (0 ∷ [])) ≡ b
               → Outcome (Next (offer .rows) (offer .words)) limit (offer .rows) (offer .words) (progressOf (offer .answer) n)
@@ -330,12 +331,12 @@ module _ (C : Contract) where
         ∙ begins-state (rows-begin (kindAutomaton C) standing (place (length standing) s i j)) k (omega arith)
 
     -- what a visit comes to: the kinds of two rows are read, the kind of the symbol over them is offered
-    pub visit : (known : Established C) (accepted refused : ℕ) → VerdictsFor C accepted refused → s < C .transformation .symbols → i < stood → j < stood
+    pub visit : (known : Established C) (v : Verdicts) → VerdictsOf (C .input .marks) (C .output .marks) v → s < C .transformation .symbols → i < stood → j < stood
         → (kind : List ℕ) → kind ≡ nextKind C s (kindIn words i) (kindIn words j) ++ (0 ∷ [])
-        → (answer : Offered) (rows′ words′ : List ℕ) → Becomes (offering accepted refused limit n s i j kind rows words) answer rows′ words′
+        → (answer : Offered) (rows′ words′ : List ℕ) → Becomes (offering v limit n s i j kind rows words) answer rows′ words′
         → (r : Progress) → r ≡ progressOf answer n
         → Outcome (λ m. At limit before stood lefts rights s i (j + 1) m rows′ words′) limit rows′ words′ r
-    visit known accepted refused verdicts hS hi hj kind ek answer rows′ words′ b r er =
+    visit known v verdicts hS hi hj kind ek answer rows′ words′ b r er =
         let e : kind ≡ nextKind C s (kindAt C standing i) (kindAt C standing j) ++ (0 ∷ []) =
         ek ∙ rw (row-held i hi hS hi hj, row-held j hj hS hi hj) in
-        rw (er, b .answer, b .rows, b .words, e) (visited known accepted refused verdicts hS hi hj)
+        rw (er, b .answer, b .rows, b .words, e) (visited known v verdicts hS hi hj)

@@ -179,7 +179,7 @@ pub fn offer(
     words: &mut [u64],
 ) -> Offered
     requires { ⌜ Room limit count (now rows) (now words) × (1 ≤ length (now hints)) ⌝ }
-    ensures { λ r. ⌜ Becomes (offering (verdicts .accepted) (verdicts .refused) limit count (symbol .0) left right (now (kind .entry)) (now (rows .entry)) (now (words .entry))) r (now (rows .exit)) (now (words .exit)) ⌝ }
+    ensures { λ r. ⌜ Becomes (offering verdicts limit count (symbol .0) left right (now (kind .entry)) (now (rows .entry)) (now (words .entry))) r (now (rows .exit)) (now (words .exit)) ⌝ }
 {
     if listed(words, count, kind, hints) {
         return Offered::Old;

@@ -19,7 +19,7 @@ same-length-2 c = search needs
 returns : tie.Need-returns
 returns c =
     let a = c .before .before .before .before .before .before .before .before .before .args in
-    offer-old (a .verdicts .accepted) (a .verdicts .refused) (a .limit) (a .count) (a .symbol .0) (a .left) (a .right) (a .kind .now) (a .rows .now) (a .words .now)
+    offer-old (a .verdicts) (a .limit) (a .count) (a .symbol .0) (a .left) (a .right) (a .kind .now) (a .rows .now) (a .words .now)
     (sym (c .before .before .before .listed .ensures) ∙ c .if1 .taken)
 
 breaks-requires : tie.Need-breaks-requires
@@ -34,7 +34,7 @@ same-length-4 c = search needs
 returns-2 : tie.Need-returns-2
 returns-2 c =
     let a = c .before .before .before .before .before .before .before .before .before .before .before .args in
-    offer-full (a .verdicts .accepted) (a .verdicts .refused) (a .limit) (a .count) (a .symbol .0) (a .left) (a .right) (a .kind .now) (a .rows .now) (a .words .now)
+    offer-full (a .verdicts) (a .limit) (a .count) (a .symbol .0) (a .left) (a .right) (a .kind .now) (a .rows .now) (a .words .now)
     (sym (c .before .before .before .before .before .listed .ensures) ∙ c .before .before .if1 .left) (c .if2 .taken)
 
 store-row-requires : tie.Need-store-row-requires
@@ -55,7 +55,7 @@ same-length-7 c = search needs
 returns-3 : tie.Need-returns-3
 returns-3 c =
     let a = c .before .before .before .before .before .before .before .before .before .before .before .before .before .before .before .before .before .before .before .before .args in
-    let stored = offer-stored (a .verdicts .accepted) (a .verdicts .refused) (a .limit) (a .count) (a .symbol .0) (a .left) (a .right) (a .kind .now) (a .rows .now) (a .words .now)
+    let stored = offer-stored (a .verdicts) (a .limit) (a .count) (a .symbol .0) (a .left) (a .right) (a .kind .now) (a .rows .now) (a .words .now)
     (sym (c .before .before .before .before .before .before .before .before .before .before .before .before .before .before .listed .ensures) ∙ c .before .before .before .before .before .before .before .before .before .before .before .if1 .left) (c .before .before .before .before .before .before .before .before .before .if2 .left) true (sym (c .before .before .before .before .before .before .before .before .before .before .breaks .ensures) ∙ c .if3 .taken) offered.Breaks refl in
     record { answer = stored .answer; rows = c .before .before .before .before .before .before .before .store-row .ensures ∙ stored .rows; words = c .before .before .before .store-kind .ensures ∙ stored .words }
 
@@ -71,7 +71,7 @@ same-length-10 c = search needs
 returns-4 : tie.Need-returns-4
 returns-4 c =
     let a = c .before .before .before .before .before .before .before .before .before .before .before .before .before .before .before .before .before .before .before .before .args in
-    let stored = offer-stored (a .verdicts .accepted) (a .verdicts .refused) (a .limit) (a .count) (a .symbol .0) (a .left) (a .right) (a .kind .now) (a .rows .now) (a .words .now)
+    let stored = offer-stored (a .verdicts) (a .limit) (a .count) (a .symbol .0) (a .left) (a .right) (a .kind .now) (a .rows .now) (a .words .now)
     (sym (c .before .before .before .before .before .before .before .before .before .before .before .before .before .before .listed .ensures) ∙ c .before .before .before .before .before .before .before .before .before .before .before .if1 .left) (c .before .before .before .before .before .before .before .before .before .if2 .left) false (sym (c .before .before .before .before .before .before .before .before .before .before .breaks .ensures) ∙ c .if3 .left) offered.New refl in
     record { answer = stored .answer; rows = c .before .before .before .before .before .before .before .store-row .ensures ∙ stored .rows; words = c .before .before .before .store-kind .ensures ∙ stored .words }
 
