@@ -2,20 +2,14 @@
 use mathlib.Core.Path.{_≡_, refl, sym, _∙_}
 use mathlib.Core.Bool.{Bool, true, false, _&&_}
 use mathlib.Core.List.{List}
-use Prim.Native.Nat.{ℕ, _+_, _-_, _≤_, _<_}
+use Prim.Native.Nat.{ℕ, _+_, _≤_, _<_}
 use native.Mathlib.Omega.{arith}
 use native.Mathlib.Decide.{ℕ-discrete}
 use native.Mathlib.Decide.{decLt}
 use borrow.Author.Tests.{lt-ltb, le-ltb, ltb-true}
-use lib.Bits.{bitAnd, and-le-r}
 use lib.Dec.{ltb}
-use Rattle.foundation.specs.Search.{first, first-at, first-none, first-clear}
-use Rattle.kind_lists.specs.Listing.{sameKind, kindPlace, kindListed, foundAt, wasFound}
-use Rattle.kind_lists.specs.declared.listing.Found.the-variants as found
-
--- a slot is below the number of slots
-pub slot-below : (w slots : ℕ) → 1 ≤ slots → bitAnd w (slots - 1) < slots
-slot-below w slots h = omega (arith, and-le-r w (slots - 1))
+use Rattle.foundation.specs.Search.{first, first-at, first-none, first-le, first-clear}
+use Rattle.kind_lists.specs.Listing.{sameKind, kindPlace, kindListed}
 
 -- one more number that fails a test
 pub below-more : (p : ℕ → Bool) (k : ℕ) → ((j : ℕ) → j < k → p j ≡ false) → p k ≡ false → (j : ℕ) → j < k + 1 → p j ≡ false
@@ -29,18 +23,17 @@ pub below-all : {p : ℕ → Bool} {n k : ℕ} → n ≤ k → ((j : ℕ) → j 
 below-all h none j l = none j (omega arith)
 
 module _ (words : List ℕ) (n : ℕ) (kind : List ℕ) where
-  pub found-hit : (j : ℕ) → j < n → ((i : ℕ) → i < j → sameKind words i kind ≡ false) → sameKind words j kind ≡ true
-      → found.At j ≡ foundAt n (kindPlace words n kind)
+  pub found-hit : (j : ℕ) → j < n → ((i : ℕ) → i < j → sameKind words i kind ≡ false) → sameKind words j kind ≡ true → j ≡ kindPlace words n kind
   unfolding kindPlace
-  found-hit j l none hit =
-      let e : first (λ i. sameKind words i kind) n ≡ j = first-at (λ i. sameKind words i kind) n j l none hit in
-      rw (e, lt-ltb j n l)
+  found-hit j l none hit = sym (first-at (λ i. sameKind words i kind) n j l none hit)
 
-  pub found-none : ((i : ℕ) → i < n → sameKind words i kind ≡ false) → found.Nowhere ≡ foundAt n (kindPlace words n kind)
+  pub found-none : ((i : ℕ) → i < n → sameKind words i kind ≡ false) → n ≡ kindPlace words n kind
   unfolding kindPlace
-  found-none none =
-      let e : first (λ i. sameKind words i kind) n ≡ n = first-none (λ i. sameKind words i kind) n none in
-      rw (e, le-ltb n n (omega arith))
+  found-none none = sym (first-none (λ i. sameKind words i kind) n none)
+
+  pub place-le : kindPlace words n kind ≤ n
+  unfolding kindPlace
+  place-le = first-le (λ i. sameKind words i kind) n
 
   -- a hint that is right
   pub hint-listed : (hint : ℕ) → (ltb hint n && sameKind words hint kind) ≡ true → true ≡ kindListed words n kind
@@ -55,13 +48,6 @@ module _ (words : List ℕ) (n : ℕ) (kind : List ℕ) where
           sym es ∙ clear ∙ cc
       go (no l) true eb false es e = cc
       go (no l) false eb s es e = cc
-
-pub was-found : (n j : ℕ) → wasFound (foundAt n j) ≡ ltb j n
-was-found n j = go (ltb j n) refl
-  where
-    go : (b : Bool) → ltb j n ≡ b → wasFound (foundAt n j) ≡ ltb j n
-    go true e = rw e
-    go false e = rw e
 
 pub hint-inside : (h n : ℕ) {r s : Bool} → h < n → r ≡ s → r ≡ (ltb h n && s)
 hint-inside h n l e = rw (lt-ltb h n l) e

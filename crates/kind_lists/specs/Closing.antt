@@ -13,10 +13,9 @@ use Rattle.model.specs.Checking.{Checked, rowNumbers, kindNumbers, standing, ch
 use Rattle.model.specs.Meaning.{NoneBreaks}
 use Rattle.model.proofs.Rounds.Stopping.{check-tree, check-refusal, check-pass}
 use Rattle.kind_lists.specs.Held.{Holds}
-use Rattle.kind_lists.specs.Steps.{Outcome}
-use Rattle.kind_lists.specs.Between.{Passed}
-use Rattle.kind_lists.specs.declared.loops.Progress.{Progress}
-use Rattle.kind_lists.specs.declared.loops.Progress.the-variants as progress
+use Rattle.kind_lists.specs.Outcomes.{Outcome, Passed}
+use Rattle.kind_lists.specs.declared.Progress.{Progress}
+use Rattle.kind_lists.specs.declared.Progress.the-variants as progress
 
 -- how many rows stand, and the answer
 abbrev pub rowsStanding : Progress → ℕ

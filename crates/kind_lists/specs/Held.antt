@@ -17,6 +17,10 @@ use Rattle.model.specs.Rounds.{kindAutomaton, ListedKind, kindAt, lists}
 use Rattle.model.specs.Checking.{rowNumbers, kindNumbers}
 use Rattle.model.proofs.Rounds.Covering.{HasState, lists-has, kinds-decided}
 use Rattle.model.proofs.Rounds.Buffers.{FiveWords}
+use Rattle.model.specs.Kinds.{breaks}
+use Rattle.model.proofs.Laws.Established.{Established}
+use Rattle.breaking.specs.Verdicts.{breaking, VerdictsOf, breaking-is}
+use Rattle.breaking.specs.declared.Verdicts.{Verdicts}
 use Rattle.kind_lists.specs.Listing.{sameWords, sameKind, kindPlace, kindListed, withKind, withRow}
 
 -- a list of five is its five numbers
@@ -82,6 +86,12 @@ in-same-kind words j kind e h =
     rw (at 0 _ (omega arith) refl, at 1 _ (omega arith) refl, at 2 _ (omega arith) refl, at 3 _ (omega arith) refl, at 4 _ (omega arith) refl)
 
 module _ (C : Contract) where
+  -- a kind with a sixth word is told by its five
+  pub breaks-padded : Established C → (v : Verdicts) → VerdictsOf (C .input .marks) (C .output .marks) v → (kind : List ℕ) → length kind ≡ 5
+      → breaking (v .accepted) (v .refused) (kind ++ (0 ∷ [])) ≡ breaks C kind
+  breaks-padded known v of kind e =
+      breaking-is C known v of (kind ++ (0 ∷ [])) ∙ ap (λ (k : List ℕ). breaks C k) (take-at kind (0 ∷ []) 5 e)
+
   row-numbers-more : (list : List (ListedKind C)) (row : ListedKind C) → rowNumbers C (list ++ (row ∷ [])) ≡ rowNumbers C list ++ (row .symbol ∷ row .left ∷ row .right ∷ [])
   unfolding rowNumbers
   row-numbers-more [] row = refl

@@ -1,9 +1,7 @@
--- Checking: what its functions compute, over the numbers and words of the lent buffers.
+-- The list of kinds in the lent buffers: what the functions compute over numbers and words, that it is the model's list, and
+-- what its end gives.
 pub mod Listing
 pub mod Held
-pub mod Steps
-pub mod Standing
-pub mod Marks
-pub mod Between
+pub mod Outcomes
+pub mod Offers
 pub mod Closing
-pub mod Starting

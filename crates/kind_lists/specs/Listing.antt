@@ -1,5 +1,5 @@
 -- The list of kinds in the lent buffers: where a kind stands in it, and what becomes of a kind that is offered to it.
-use mathlib.Core.Bool.{Bool, true, false, _&&_}
+use mathlib.Core.Bool.{Bool, _&&_}
 use mathlib.Core.List.{List, [], _∷_}
 use mathlib.Core.Path.{_≡_}
 use Prim.Native.Nat.{ℕ, _+_, _*_, _≤_}
@@ -9,10 +9,9 @@ use Rattle.foundation.specs.Tests.{choose}
 use Rattle.foundation.specs.Search.{first}
 use Rattle.foundation.specs.Lists.{zeroFilled}
 use Rattle.breaking.specs.Verdicts.{breaking}
-use Rattle.kind_lists.specs.declared.listing.Found.{Found}
-use Rattle.kind_lists.specs.declared.listing.Found.the-variants as found
-use Rattle.kind_lists.specs.declared.listing.Offered.{Offered}
-use Rattle.kind_lists.specs.declared.listing.Offered.the-variants as offered
+use Rattle.breaking.specs.declared.Verdicts.{Verdicts}
+use Rattle.kind_lists.specs.declared.Progress.{Progress}
+use Rattle.kind_lists.specs.declared.Progress.the-variants as progress
 
 -- row j of the words, with a sixth word 0
 abbrev pub paddedKind : List ℕ → ℕ → List ℕ
@@ -32,13 +31,6 @@ sameKind words j kind = sameWords (paddedKind words j) kind
 -- the first of n rows that is this kind, or n
 unfoldable pub kindPlace : List ℕ → ℕ → List ℕ → ℕ
 kindPlace words n kind = first (λ j. sameKind words j kind) n
-
-abbrev pub foundAt : ℕ → ℕ → Found
-foundAt n j = choose (ltb j n) (found.At j) found.Nowhere
-
-abbrev pub wasFound : Found → Bool
-wasFound (found.At j) = true
-wasFound found.Nowhere = false
 
 -- "a kind not yet listed"
 abbrev pub kindListed : List ℕ → ℕ → List ℕ → Bool
@@ -65,23 +57,23 @@ pub record Room (limit n : ℕ) (rows words : List ℕ) : Type 0 where
   pub wordRoom : length words ≡ 5 * limit
 
 pub record Offering : Type 0 where
-  pub answer : Offered
+  pub answer : Progress
   pub rows : List ℕ
   pub words : List ℕ
 
 -- an answer and closing buffers are as told
-pub record Becomes (told : Offering) (r : Offered) (rowsAfter wordsAfter : List ℕ) : Type 0 where
+pub record Becomes (told : Offering) (r : Progress) (rowsAfter wordsAfter : List ℕ) : Type 0 where
   pub answer : r ≡ told .answer
   pub rows : rowsAfter ≡ told .rows
   pub words : wordsAfter ≡ told .words
 
 -- a kind with its row is offered to a list of n rows
-unfoldable pub offering : (accepted refused limit n symbol left right : ℕ) → (kind rows words : List ℕ) → Offering
-offering accepted refused limit n symbol left right kind rows words =
-    choose (kindListed words n kind) (record { answer = offered.Old; rows = rows; words = words })
-    (choose (eqb n limit) (record { answer = offered.Full; rows = rows; words = words })
+unfoldable pub offering : (v : Verdicts) (limit n symbol left right : ℕ) → (kind rows words : List ℕ) → Offering
+offering v limit n symbol left right kind rows words =
+    choose (kindListed words n kind) (record { answer = progress.Going n; rows = rows; words = words })
+    (choose (eqb n limit) (record { answer = progress.Full; rows = rows; words = words })
     (record {
-      answer = choose (breaking accepted refused kind) offered.Breaks offered.New;
+      answer = choose (breaking (v .accepted) (v .refused) kind) (progress.Breaks n) (progress.Going (n + 1));
       rows = withRow rows n symbol left right;
       words = withKind words n kind;
     }))

@@ -1,5 +1,13 @@
-// Checking a contract: the kinds of all trees, listed in rounds.
+// The list of kinds as it stands in the lent buffers: finding a kind, offering one, and closing the buffers at the end.
 pub mod closing;
 pub mod listing;
-pub mod loops;
-pub mod marking;
+
+// How offers to the list end.
+pub enum Progress {
+    // The list has this many rows, and none breaks the contract.
+    Going(usize),
+    // This row breaks the contract.
+    Breaks(usize),
+    // There are more kinds than rows.
+    Full,
+}

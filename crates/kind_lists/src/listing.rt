@@ -1,31 +1,14 @@
-// The list of kinds as it stands in the lent buffers: three numbers and five words a row.
+// Finding a kind in the list and offering one to it: three numbers and five words a row.
 ghost use mathlib.Core.Path.{_≡_};
-ghost use Prim.Native.Nat.{_+_, _*_, _-_, _<_, _≤_};
+ghost use Prim.Native.Nat.{_+_, _*_, _<_, _≤_};
 ghost use lib.ListN.{length};
-ghost use Rattle.kind_lists.specs.Listing.{sameWords, sameKind, kindPlace, foundAt, kindListed, withKind, withRow, paddedKind, clearedFrom, offering, wasFound, Room, Becomes};
+ghost use Rattle.kind_lists.specs.Listing.{sameWords, sameKind, kindPlace, kindListed, withKind, withRow, paddedKind, offering, Room, Becomes};
 ghost use mathlib.Core.Bool.{_&&_};
 ghost use lib.Dec.{ltb};
+use crate::Progress;
 use breaking::Verdicts;
 use breaking::breaks;
 use tables::Symbol;
-
-// Where a kind stands in the list.
-pub enum Found {
-    At(usize),
-    Nowhere,
-}
-
-// What became of a kind that was offered to the list.
-pub enum Offered {
-    // It was listed already.
-    Old,
-    // It is the new last row.
-    New,
-    // It is the new last row, and breaks the contract.
-    Breaks,
-    // It is not listed, and no row is left.
-    Full,
-}
 
 // Row j of the words, with a sixth word 0.
 pub fn kind_at(words: &[u64], j: usize) -> [u64; 6]
@@ -58,43 +41,34 @@ pub fn same_kind(words: &[u64], j: usize, kind: &[u64; 6]) -> bool
     same_words(&row, kind)
 }
 
-// The first of the first `count` rows that has this kind.
-pub fn find_kind(words: &[u64], count: usize, kind: &[u64; 6]) -> Found
+// The first of the first `count` rows that has this kind, or `count`.
+pub fn find_kind(words: &[u64], count: usize, kind: &[u64; 6]) -> usize
     requires { ⌜ 5 * count ≤ length (now words) ⌝ }
-    ensures { λ r. ⌜ r ≡ foundAt count (kindPlace (now (words .entry)) count (now (kind .entry))) ⌝ }
+    ensures { λ r. ⌜ r ≡ kindPlace (now (words .entry)) count (now (kind .entry)) ⌝ }
 {
     let mut j: usize = 0;
     while j < count {
         if same_kind(words, j, kind) {
-            return Found::At(j);
+            return j;
         }
         j += 1;
     }
-    Found::Nowhere
+    count
 }
 
-// A slot below the number of slots, which is best a power of two.
-fn slot_below(hash: usize, slots: usize) -> usize
-    requires { ⌜ 1 ≤ slots ⌝ }
-    ensures { λ r. ⌜ r < slots ⌝ }
-{
-    hash & (slots - 1)
-}
-
-// The slot of a kind in a table of so many hints.
-pub fn hint_slot(kind: &[u64; 6], slots: usize) -> usize
-    requires { ⌜ 1 ≤ slots ⌝ }
-    ensures { λ r. ⌜ r < slots ⌝ }
+// The slot of a kind, which names a row to compare first.
+fn slot_of(kind: &[u64; 6]) -> usize
+    ensures { λ r. ⌜ r < 1024 ⌝ }
 {
     let low = kind[0] ^ (kind[1] << 7) ^ (kind[2] << 19) ^ (kind[3] << 31) ^ (kind[4] << 43);
     let high = (kind[1] >> 23) ^ (kind[2] >> 31) ^ (kind[3] >> 11) ^ (kind[4] >> 5);
     let both = low ^ high;
     let half = (both ^ (both >> 32)) % 4294967296;
-    slot_below(((half * 2654435761) >> 20) as usize, slots)
+    ((half * 2654435761) >> 20) as usize % 1024
 }
 
-// Whether the row that the hint names is listed and has this kind.
-pub fn hint_right(words: &[u64], count: usize, hint: usize, kind: &[u64; 6]) -> bool
+// Whether the row that a slot names is listed and has this kind.
+fn hint_right(words: &[u64], count: usize, hint: usize, kind: &[u64; 6]) -> bool
     requires { ⌜ 5 * count ≤ length (now words) ⌝ }
     ensures { λ r. ⌜ r ≡ (ltb hint count && sameKind (now (words .entry)) hint (now (kind .entry))) ⌝ }
 {
@@ -110,37 +84,19 @@ fn wide(entry: u16) -> usize
     entry as usize
 }
 
-// The row to compare first at the next offer of this kind; where it is not found, the row that it will have.
-pub fn hint_of(found: Found, count: usize) -> u16
-    requires { ⌜ count < 65536 ⌝ }
-{
-    match found {
-        Found::At(j) => if j < count { j as u16 } else { 0 },
-        Found::Nowhere => count as u16,
-    }
-}
-
-fn is_found(found: Found) -> bool
-    ensures { λ r. ⌜ r ≡ wasFound found ⌝ }
-{
-    match found {
-        Found::At(_) => true,
-        Found::Nowhere => false,
-    }
-}
-
-// Whether the kind is listed. A hint names the row to compare first; a wrong one costs a search.
-pub fn listed(words: &[u64], count: usize, kind: &[u64; 6], hints: &mut [u16]) -> bool
-    requires { ⌜ (5 * count ≤ length (now words)) × (count < 65536) × (1 ≤ length (now hints)) ⌝ }
+// Whether the kind is listed. A slot names the row to compare first; a wrong one costs a search, after which it names the row
+// that the kind has or will have.
+pub fn listed(words: &[u64], count: usize, kind: &[u64; 6], slots: &mut [u16; 1024]) -> bool
+    requires { ⌜ (5 * count ≤ length (now words)) × (count ≤ 512) ⌝ }
     ensures { λ r. ⌜ r ≡ kindListed (now (words .entry)) count (now (kind .entry)) ⌝ }
 {
-    let slot = hint_slot(kind, hints.len());
-    if hint_right(words, count, wide(hints[slot]), kind) {
+    let slot = slot_of(kind);
+    if hint_right(words, count, wide(slots[slot]), kind) {
         return true;
     }
-    let found = find_kind(words, count, kind);
-    hints[slot] = hint_of(found, count);
-    is_found(found)
+    let place = find_kind(words, count, kind);
+    slots[slot] = place as u16;
+    place < count
 }
 
 // Row j of the rows.
@@ -174,47 +130,24 @@ pub fn offer(
     left: u16,
     right: u16,
     kind: &[u64; 6],
-    hints: &mut [u16],
+    slots: &mut [u16; 1024],
     rows: &mut [u16],
     words: &mut [u64],
-) -> Offered
-    requires { ⌜ Room limit count (now rows) (now words) × (1 ≤ length (now hints)) ⌝ }
-    ensures { λ r. ⌜ Becomes (offering (verdicts .accepted) (verdicts .refused) limit count (symbol .0) left right (now (kind .entry)) (now (rows .entry)) (now (words .entry))) r (now (rows .exit)) (now (words .exit)) ⌝ }
+) -> Progress
+    requires { ⌜ Room limit count (now rows) (now words) ⌝ }
+    ensures { λ r. ⌜ Becomes (offering verdicts limit count (symbol .0) left right (now (kind .entry)) (now (rows .entry)) (now (words .entry))) r (now (rows .exit)) (now (words .exit)) ⌝ }
 {
-    if listed(words, count, kind, hints) {
-        return Offered::Old;
+    if listed(words, count, kind, slots) {
+        return Progress::Going(count);
     }
     let breaking = breaks(verdicts, kind);
     if count == limit {
-        return Offered::Full;
+        return Progress::Full;
     }
     store_row(rows, count, symbol, left, right);
     store_kind(words, count, kind);
     if breaking {
-        return Offered::Breaks;
+        return Progress::Breaks(count);
     }
-    Offered::New
-}
-
-// Zeros from a place on.
-pub fn clear_rows(rows: &mut [u16], from: usize)
-    requires { ⌜ from ≤ length (now rows) ⌝ }
-    ensures { λ _. ⌜ now (rows .exit) ≡ clearedFrom (now (rows .entry)) from ⌝ }
-{
-    let mut i: usize = from;
-    while i < rows.len() {
-        rows[i] = 0;
-        i += 1;
-    }
-}
-
-pub fn clear_words(words: &mut [u64], from: usize)
-    requires { ⌜ from ≤ length (now words) ⌝ }
-    ensures { λ _. ⌜ now (words .exit) ≡ clearedFrom (now (words .entry)) from ⌝ }
-{
-    let mut i: usize = from;
-    while i < words.len() {
-        words[i] = 0;
-        i += 1;
-    }
+    Progress::Going(count + 1)
 }

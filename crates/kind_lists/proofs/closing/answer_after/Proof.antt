@@ -1,7 +1,7 @@
 -- By the three ends.
 use mathlib.Core.Path.{ap, sym}
 use Rattle.kind_lists.specs.Closing.{answerAfter}
-use Rattle.kind_lists.specs.declared.loops.Progress.{Progress}
+use Rattle.kind_lists.specs.declared.Progress.{Progress}
 use borrow.Author.Needs.{needs}
 use Rattle.kind_lists.proofs.closing.answer_after.Statement.{statement}
 use Rattle.kind_lists.proofs.closing.answer_after.Tie as tie

@@ -1,8 +1,8 @@
 -- By the three ends.
 use mathlib.Core.Path.{ap, sym}
 use Rattle.kind_lists.specs.Closing.{rowsStanding}
-use Rattle.kind_lists.specs.declared.loops.Progress.{Progress}
-use Rattle.kind_lists.proofs.Stops.{standing-small}
+use Rattle.kind_lists.specs.declared.Progress.{Progress}
+use Rattle.kind_lists.proofs.Offers.{standing-small}
 use native.Mathlib.Omega.{arith}
 use borrow.Author.Needs.{needs}
 use Rattle.kind_lists.proofs.closing.rows_standing.Statement.{statement}

@@ -1,0 +1,88 @@
+-- Invariant: the buffers hold the rows of some rounds, and those of the last but one have their marks. Measure: how many rows
+-- there may be above those.
+use mathlib.Core.Path.{_≡_, refl, sym, _∙_}
+use Prim.Native.Nat.{_-_, _≤_, _<_}
+use native.Mathlib.Omega.{arith}
+use Rattle.prepared.specs.Parts.{contractIn}
+use Rattle.kind_lists.proofs.Stops.{ends, goes}
+use Rattle.rounds.specs.Steps.{Marked, none-marked-yet}
+use Rattle.rounds.specs.Between.{Between, round-starts, round-ends, passed}
+use Rattle.rounds.proofs.Visits.{between-room, between-some, at-lengths}
+use Rattle.rounds.proofs.all_rounds.Statement.{statement}
+use Rattle.rounds.proofs.all_rounds.Tie as tie
+
+abbrev Inv-loop : tie.InvT-loop
+Inv-loop prepared table left-masks right-masks limit count slots₀ rows₀ words₀ room₀ lefts₀ rights₀ before₀ stood₀ slots rows words room lefts rights before stood =
+    (b : Between (contractIn prepared table) limit before stood rows words) × Marked (contractIn prepared table) (b .height) before lefts rights
+
+abbrev μ-loop : tie.MeasureT-loop
+μ-loop prepared table left-masks right-masks limit count slots₀ rows₀ words₀ room₀ lefts₀ rights₀ before₀ stood₀ slots rows words room lefts rights before stood = limit - before
+
+loop-holds : tie.Need-loop-holds Inv-loop μ-loop
+loop-holds c = (c .before .before .before .pre .2, none-marked-yet _ _ _ _ refl refl)
+
+mark-rows-requires : tie.Need-mark-rows-requires Inv-loop μ-loop
+mark-rows-requires c κs =
+    let room = between-room (c .before .before .before .loop .inv .0) in
+    (omega (arith, room .used, room .wordRoom), c .before .before .before .before .before .before .before .pre .0 .prepared .established .symbols .≤most, omega (arith, room .used, room .few), c .before .before .before .loop .inv .1 .leftRoom)
+
+mark-rows-requires-2 : tie.Need-mark-rows-requires-2 Inv-loop μ-loop
+mark-rows-requires-2 c κs =
+    let room = between-room (c .before .before .before .before .before .before .loop .inv .0) in
+    (omega (arith, room .used, room .wordRoom), c .before .before .before .before .before .before .before .before .before .before .pre .0 .prepared .established .symbols .≤most, omega (arith, room .used, room .few), c .before .before .before .before .before .before .loop .inv .1 .rightRoom)
+
+one-round-requires : tie.Need-one-round-requires Inv-loop μ-loop
+one-round-requires c κs =
+    let pre = c .before .before .before .before .before .before .before .before .before .before .before .before .before .before .before .before .before .pre in
+    let inv = c .before .before .before .before .before .before .before .before .before .before .before .before .before .loop .inv in
+    (pre .0, round-starts _ (pre .0 .prepared .established) _ _ (pre .1) (inv .0) (inv .1) (c .before .before .before .before .before .before .before .before .before .mark-rows .ensures) (c .before .before .before .before .before .before .mark-rows2 .ensures))
+
+enum-known-step : tie.Need-enum-known-step Inv-loop μ-loop
+enum-known-step c = c .match .keys1
+
+same-length : tie.Need-same-length Inv-loop μ-loop
+same-length c = at-lengths _ _ _ _ _ _ _ _ _ (c .before .before .before .before .before .one-round .result) (c .before .before .before .before .before .one-round .ensures) .0 ∙ sym (between-room (c .before .before .before .before .before .before .before .before .before .before .before .before .before .before .before .before .before .before .before .before .before .before .before .pre .2) .rowRoom)
+
+same-length-2 : tie.Need-same-length-2 Inv-loop μ-loop
+same-length-2 c = at-lengths _ _ _ _ _ _ _ _ _ (c .before .before .before .before .before .one-round .result) (c .before .before .before .before .before .one-round .ensures) .1 ∙ sym (between-room (c .before .before .before .before .before .before .before .before .before .before .before .before .before .before .before .before .before .before .before .before .before .before .before .pre .2) .wordRoom)
+
+returns : tie.Need-returns Inv-loop μ-loop
+returns c = ends _ _ _ _ _ _ (c .before .before .before .before .before .one-round .result) (c .match .keys2) (c .before .before .before .before .before .one-round .ensures)
+
+loop-less : tie.Need-loop-less Inv-loop μ-loop
+loop-less c =
+    let b = c .before .before .before .before .before .before .before .before .before .before .before .before .before .before .before .before .before .before .before .before .before .loop .inv .0 in
+    let test = c .before .before .before .before .before .before .before .before .before .before .before .before .before .before .before .before .before .before .before .before .loop-test .taken in
+    omega (arith, between-room b .used, between-some b)
+
+loop-again : tie.Need-loop-again Inv-loop μ-loop
+loop-again c = round-ends _ (goes _ _ _ _ _ (c .before .before .before .before .before .before .before .one-round .result) _ (c .before .step .given .1) (c .before .before .before .before .before .before .before .one-round .ensures))
+
+same-length-3 : tie.Need-same-length-3 Inv-loop μ-loop
+same-length-3 c = between-room (c .before .loop .inv .0) .rowRoom ∙ sym (between-room (c .before .before .before .before .before .pre .2) .rowRoom)
+
+same-length-4 : tie.Need-same-length-4 Inv-loop μ-loop
+same-length-4 c = between-room (c .before .loop .inv .0) .wordRoom ∙ sym (between-room (c .before .before .before .before .before .pre .2) .wordRoom)
+
+returns-2 : tie.Need-returns-2 Inv-loop μ-loop
+returns-2 c = let test = c .loop-test .left in passed _ (c .before .loop .inv .0) (omega arith)
+
+pub all-rounds-spec : {M : Type 1} → statement M
+all-rounds-spec =
+    tie.close
+    (tie.spec
+    Inv-loop
+    μ-loop
+    loop-holds
+    mark-rows-requires
+    mark-rows-requires-2
+    one-round-requires
+    enum-known-step
+    same-length
+    same-length-2
+    returns
+    loop-less
+    loop-again
+    same-length-3
+    same-length-4
+    returns-2)

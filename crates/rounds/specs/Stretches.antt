@@ -1,0 +1,33 @@
+-- Where the loops stand in a prepared contract's rounds, and what a stretch of them comes to, as the code says it.
+use Prim.Native.Nat.{ℕ}
+use mathlib.Core.List.{List}
+use Rattle.prepared.specs.declared.Prepared.{Prepared}
+use Rattle.prepared.specs.Parts.{contractIn}
+use Rattle.kind_lists.specs.Outcomes.{Outcome, Passed}
+use Rattle.kind_lists.specs.declared.Progress.{Progress}
+use Rattle.rounds.specs.declared.Place.{Place}
+use Rattle.rounds.specs.declared.Round.{Round}
+use Rattle.rounds.specs.Steps.{At}
+use Rattle.rounds.specs.Between.{Between}
+
+module _ (p : Prepared) (table : List ℕ) where
+  module _ (r : Round) (lefts rights : List ℕ) where
+    -- the loops stand at a place
+    abbrev pub Stands : Place → (rows words : List ℕ) → Type 0
+    Stands w rows words = At (contractIn p table) r lefts rights (w .symbol .0) (w .left) (w .right) (w .count) rows words
+
+    -- .. before the first pair
+    abbrev pub Starts : (rows words : List ℕ) → Type 0
+    Starts rows words = At (contractIn p table) r lefts rights 1 0 0 (r .stood) rows words
+
+    -- they come to symbol s over rows i and j, or the answer is known
+    abbrev pub Comes : (s i j : ℕ) (rows words : List ℕ) → Progress → Type 0
+    Comes s i j rows words = Outcome (contractIn p table) (λ n. At (contractIn p table) r lefts rights s i j n rows words) (r .limit) rows words
+
+  -- round 0 is listed, or the answer is known
+  abbrev pub Begun : (limit : ℕ) (rows words : List ℕ) → Progress → Type 0
+  Begun limit rows words = Outcome (contractIn p table) (λ n. Between (contractIn p table) limit 0 n rows words) limit rows words
+
+  -- the whole list, or the answer is known
+  abbrev pub Lists : (limit : ℕ) (rows words : List ℕ) → Progress → Type 0
+  Lists limit rows words = Outcome (contractIn p table) (λ n. Passed (contractIn p table) limit n rows words) limit rows words

@@ -1,0 +1,2 @@
+-- Marks of rows: what the marks say of the rows, and which row is marked next.
+pub mod Marks
