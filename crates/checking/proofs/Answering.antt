@@ -1,5 +1,5 @@
 -- Each refusal and the check, as the definition gives them.
-use mathlib.Core.Path.{_≡_, refl, _∙_}
+use mathlib.Core.Path.{_≡_, refl, subst, sym, _∙_}
 use mathlib.Core.List.{List}
 use Prim.Native.Nat.{ℕ, _<_, _≤_}
 use lib.ListN.{length}
@@ -10,13 +10,35 @@ use Rattle.model.specs.Admission.{admission, admit}
 use Rattle.model.specs.Checking.{limitWrong, check, checkingVerdict, checking}
 use Rattle.model.proofs.Laws.Answers.{refuse-first-at, given-passed, given-stopped, given-refused}
 use Rattle.model.proofs.Rounds.Stopping.{checking-check}
-use Rattle.answers.specs.Numbers.{contractRefusal}
+use Rattle.model.proofs.Laws.Established.{Established}
+use Rattle.model.proofs.Laws.Admitted.{established}
+use Rattle.answers.specs.Numbers.{contractRefusal, admissionAnswer}
+use Rattle.answers.specs.declared.AdmissionAnswer.{AdmissionAnswer}
+use Rattle.answers.specs.declared.AdmissionAnswer.the-variants as admission-answer
 use Rattle.answers.specs.declared.ContractFault.{ContractFault}
-use Rattle.admission.proofs.Answered.{refused-as}
+use Rattle.admission.proofs.Answered.{refused-as, admitted-fine}
 use Rattle.kind_lists.specs.Listing.{Room}
 use Rattle.kind_lists.specs.Closing.{Gives}
+use Rattle.classes.specs.Masks.{Covered}
+use Rattle.prepared.specs.declared.Prepared.{Prepared}
+use Rattle.prepared.specs.Parts.{contractIn}
+use Rattle.preparing.specs.Packing.{Prepares}
+use Rattle.checking.proofs.Sizes.{has-room, has-row}
+
+-- nothing is refused: the contract is admitted, and the limit and the buffers have the right sizes
+pub record Tested (C : Contract) (L : ℕ) (rows words : List ℕ) : Type 0 where
+  pub good : admission C ≡ fine
+  pub known : Established C
+  pub room : Room L 0 rows words
+  pub some : 1 ≤ L
 
 module _ (C : Contract) (L : ℕ) (rows words : List ℕ) where
+  pub tested : (a : AdmissionAnswer) → a ≡ admission-answer.Admitted → admissionAnswer a ≡ admit C
+      → (place : ℕ) → place ≡ first (limitWrong C L (length rows) (length words)) 3 → 3 ≤ place → Tested C L rows words
+  tested a e told place is past =
+      let good = admitted-fine a C e told in
+      record { good = good; known = established C good; room = has-room C L rows words place is past; some = has-row C L rows words place is past }
+
   pub refused-contract : (f : ContractFault) → contractRefusal f ≡ admit C → Gives (checking C L rows words) (contractRefusal f) rows words
   unfolding checking checkingVerdict admit
   refused-contract f e =
@@ -34,7 +56,15 @@ module _ (C : Contract) (L : ℕ) (rows words : List ℕ) where
       ∙ given-refused _ _ _ 9 place (refuse-first-at 9 (limitWrong C L (length rows) (length words)) 3 place e h) in
       rw q (record { answered = refl; rowsClosed = refl; wordsClosed = refl })
 
-  pub checked : admission C ≡ fine → Room L 0 rows words → 1 ≤ L → (a : Answer) (r w : List ℕ) → Gives (check C L) a r w
-      → Gives (checking C L rows words) a r w
-  checked good room some a r w g =
-      rw (checking-check C L rows words good (record { atLeast = some; atMost = room .few; rows = room .rowRoom; words = room .wordRoom })) g
+  -- what a check of the prepared contract gives
+  pub checked : Tested C L rows words → (p : Prepared) (table l r : List ℕ) → Prepares C p table l r
+      → (a : Answer) (rows′ words′ : List ℕ) → Gives (check (contractIn p table) L) a rows′ words′
+      → Gives (checking C L rows words) a rows′ words′
+  checked t p table l r made a rows′ words′ g =
+      let room = t .room in
+      rw (checking-check C L rows words (t .good) (record { atLeast = t .some; atMost = room .few; rows = room .rowRoom; words = room .wordRoom }))
+      (subst (λ (D : Contract). Gives (check D L) a rows′ words′) (made .contract) g)
+
+-- the masks are those of the contract in the table
+pub covered : {C : Contract} {p : Prepared} {table l r : List ℕ} → Prepares C p table l r → Covered (contractIn p table) l r
+covered {l = l} {r = r} made = subst (λ (D : Contract). Covered D l r) (sym (made .contract)) (made .masks)
