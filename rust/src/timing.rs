@@ -73,7 +73,7 @@ pub fn one_after_the_other(left: &impl Engine, right: &impl Engine, contract: &C
 const TURN: Duration = Duration::from_micros(50);
 
 /// How many rounds there are at least.
-const LEAST_ROUNDS: usize = 31;
+const LEAST_ROUNDS: usize = 101;
 
 /// Seconds and nanoseconds, as the clock gives them.
 #[repr(C)]
