@@ -3,6 +3,7 @@
 use crate::contract::Contract;
 use crate::engine::{Answer, Engine};
 use crate::generator::{self, Random};
+use std::fmt::Debug;
 
 /// A question on which two engines differ.
 #[derive(Debug)]
@@ -37,23 +38,33 @@ fn length(random: &mut Random, due: usize) -> usize {
 }
 
 /// Asks both engines; an answer counts with the closing buffers.
-fn ask<B: Clone + PartialEq + std::fmt::Debug>(
+pub fn agree<B: Clone + PartialEq + Debug>(
+    buffers: B,
+    question: impl Fn() -> String,
+    left: impl Fn(&mut B) -> Answer,
+    right: impl Fn(&mut B) -> Answer,
+) -> Result<Answer, Difference> {
+    let (mut ours, mut theirs) = (buffers.clone(), buffers);
+    let (a, b) = (left(&mut ours), right(&mut theirs));
+    if a == b && ours == theirs {
+        return Ok(a);
+    }
+    Err(Difference { question: question(), left: format!("{a} {ours:?}"), right: format!("{b} {theirs:?}") })
+}
+
+/// Asks both engines and counts what they answer.
+fn ask<B: Clone + PartialEq + Debug>(
     seen: &mut Seen,
     buffers: B,
     question: impl Fn() -> String,
     left: impl Fn(&mut B) -> Answer,
     right: impl Fn(&mut B) -> Answer,
 ) -> Result<(), Difference> {
-    let (mut ours, mut theirs) = (buffers.clone(), buffers);
-    let (a, b) = (left(&mut ours), right(&mut theirs));
-    match a {
+    match agree(buffers, question, left, right)? {
         Answer::Refused { .. } => seen.refused += 1,
         _ => seen.answered += 1,
     }
-    if a == b && ours == theirs {
-        return Ok(());
-    }
-    Err(Difference { question: question(), left: format!("{a} {ours:?}"), right: format!("{b} {theirs:?}") })
+    Ok(())
 }
 
 fn ask_contract(

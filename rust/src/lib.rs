@@ -7,7 +7,7 @@
 //! * [`script`]: scripts of questions, played on any engine.
 //! * [`generator`]: random contracts, documents and rows, valid and damaged, from a seed.
 //! * [`comparison`]: two engines asked the same random questions.
-//! * [`timing`]: how long a check takes.
+//! * [`timing`]: how long two engines take for the same question.
 
 pub mod comparison;
 pub mod contract;

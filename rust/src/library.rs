@@ -50,23 +50,6 @@ macro_rules! of_contract {
     };
 }
 
-of_contract! {
-    goosedawn_admit();
-    goosedawn_judge(numbers: *const u16, number_count: usize, kind: *mut u64, kind_words: usize);
-    goosedawn_run(numbers: *const u16, number_count: usize, rows: *mut u16, row_numbers: usize);
-    goosedawn_check(limit: usize, rows: *mut u16, row_numbers: usize, words: *mut u64, word_count: usize);
-}
-
-extern "C" {
-    fn goosedawn_write_out(
-        rows: *const u16,
-        row_numbers: usize,
-        row: usize,
-        buffer: *mut u16,
-        buffer_numbers: usize,
-    ) -> Reply;
-}
-
 /// Calls a function with the tables of a contract, each as a pointer and a length, and what follows them.
 macro_rules! call {
     ($name:ident, $contract:expr $(, $rest:expr)*) => {{
@@ -89,43 +72,114 @@ macro_rules! call {
     }};
 }
 
-/// The proved library; runs are made on a thread with a stack of this many bytes.
+/// The functions of a build of the library, made safe; a run is on the caller's stack.
+#[derive(Clone, Copy, Debug)]
+struct Functions {
+    admit: fn(&Contract) -> Answer,
+    judge: fn(&Contract, &[u16], &mut [u64]) -> Answer,
+    check: fn(&Contract, usize, &mut [u16], &mut [u64]) -> Answer,
+    run: fn(&Contract, &[u16], &mut [u16]) -> Answer,
+    write_out: fn(&[u16], usize, &mut [u16]) -> Answer,
+}
+
+/// Declares the functions of a build by their names in its archive, and gathers them.
+macro_rules! build {
+    ($build:ident: $admit:ident, $judge:ident, $run:ident, $check:ident, $write_out:ident) => {
+        of_contract! {
+            $admit();
+            $judge(numbers: *const u16, number_count: usize, kind: *mut u64, kind_words: usize);
+            $run(numbers: *const u16, number_count: usize, rows: *mut u16, row_numbers: usize);
+            $check(limit: usize, rows: *mut u16, row_numbers: usize, words: *mut u64, word_count: usize);
+        }
+
+        extern "C" {
+            fn $write_out(
+                rows: *const u16,
+                row_numbers: usize,
+                row: usize,
+                buffer: *mut u16,
+                buffer_numbers: usize,
+            ) -> Reply;
+        }
+
+        const $build: Functions = Functions {
+            admit: |contract| call!($admit, contract),
+            judge: |contract, numbers, kind| {
+                call!($judge, contract, numbers.as_ptr(), numbers.len(), kind.as_mut_ptr(), kind.len())
+            },
+            check: |contract, limit, rows, words| {
+                call!($check, contract, limit, rows.as_mut_ptr(), rows.len(), words.as_mut_ptr(), words.len())
+            },
+            run: |contract, numbers, rows| {
+                call!($run, contract, numbers.as_ptr(), numbers.len(), rows.as_mut_ptr(), rows.len())
+            },
+            write_out: |rows, row, buffer| {
+                // Both pairs are live slices of those lengths, and the one that is written does not overlap the other.
+                let reply = unsafe { $write_out(rows.as_ptr(), rows.len(), row, buffer.as_mut_ptr(), buffer.len()) };
+                Answer::from(reply)
+            },
+        };
+    };
+}
+
+build! { PRESENT: goosedawn_admit, goosedawn_judge, goosedawn_run, goosedawn_check, goosedawn_write_out }
+
+#[cfg(feature = "compare")]
+build! { OLD: old_goosedawn_admit, old_goosedawn_judge, old_goosedawn_run, old_goosedawn_check, old_goosedawn_write_out }
+
+/// The proved library; runs are made on a thread with a stack of `run_stack` bytes.
 #[derive(Clone, Copy, Debug)]
 pub struct Library {
-    pub run_stack: usize,
+    functions: Functions,
+    run_stack: usize,
 }
 
 impl Default for Library {
     fn default() -> Library {
-        Library { run_stack: RUN_STACK }
+        Library::with_run_stack(RUN_STACK)
+    }
+}
+
+impl Library {
+    /// The present build, with another stack for runs.
+    pub fn with_run_stack(run_stack: usize) -> Library {
+        Library { functions: PRESENT, run_stack }
+    }
+
+    /// An older build, which `tests/compare` renames and links beside the present one.
+    #[cfg(feature = "compare")]
+    pub fn old() -> Library {
+        Library { functions: OLD, run_stack: RUN_STACK }
+    }
+
+    /// A run on the caller's stack, which has to be large enough for it.
+    pub fn run_here(&self, contract: &Contract, numbers: &[u16], rows: &mut [u16]) -> Answer {
+        (self.functions.run)(contract, numbers, rows)
     }
 }
 
 impl Engine for Library {
     fn admit(&self, contract: &Contract) -> Answer {
-        call!(goosedawn_admit, contract)
+        (self.functions.admit)(contract)
     }
 
     fn judge(&self, contract: &Contract, numbers: &[u16], kind: &mut [u64]) -> Answer {
-        call!(goosedawn_judge, contract, numbers.as_ptr(), numbers.len(), kind.as_mut_ptr(), kind.len())
+        (self.functions.judge)(contract, numbers, kind)
     }
 
     fn check(&self, contract: &Contract, limit: usize, rows: &mut [u16], words: &mut [u64]) -> Answer {
-        call!(goosedawn_check, contract, limit, rows.as_mut_ptr(), rows.len(), words.as_mut_ptr(), words.len())
+        (self.functions.check)(contract, limit, rows, words)
     }
 
     fn run(&self, contract: &Contract, numbers: &[u16], rows: &mut [u16]) -> Answer {
         thread::scope(|scope| {
-            let work =
-                || call!(goosedawn_run, contract, numbers.as_ptr(), numbers.len(), rows.as_mut_ptr(), rows.len());
+            let work = || self.run_here(contract, numbers, rows);
             let thread = thread::Builder::new().stack_size(self.run_stack).spawn_scoped(scope, work);
             thread.expect("a thread").join().expect("an answer")
         })
     }
 
     fn write_out(&self, rows: &[u16], row: usize, buffer: &mut [u16]) -> Answer {
-        // Both pairs are live slices of those lengths, and the one that is written does not overlap the other.
-        let reply = unsafe { goosedawn_write_out(rows.as_ptr(), rows.len(), row, buffer.as_mut_ptr(), buffer.len()) };
-        Answer::from(reply)
+        (self.functions.write_out)(rows, row, buffer)
     }
 }

@@ -333,6 +333,18 @@ pub fn play<E: Engine>(engine: &E, script: &[u8]) -> String {
     player.said
 }
 
+/// The script in the file that the program's one argument names; ends the program where there is none.
+pub fn named_by_argument(program: &str) -> Vec<u8> {
+    let Some(path) = std::env::args().nth(1) else {
+        eprintln!("usage: {program} FILE");
+        std::process::exit(2);
+    };
+    std::fs::read(&path).unwrap_or_else(|error| {
+        eprintln!("{path}: {error}");
+        std::process::exit(2);
+    })
+}
+
 /// The contracts of a script, each as it stands where its check is asked for, with the label and the limit.
 pub fn checks(script: &[u8]) -> Vec<(String, Contract, u16)> {
     struct Collector(std::cell::RefCell<Vec<(Contract, u16)>>);

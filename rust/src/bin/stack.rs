@@ -40,7 +40,7 @@ fn main() {
         [file, size] => {
             let script = std::fs::read(file).expect("the script");
             let run_stack = size.parse().expect("a size");
-            let player = move || play(&Library { run_stack }, &script);
+            let player = move || play(&Library::with_run_stack(run_stack), &script);
             let thread = thread::Builder::new().stack_size(run_stack).spawn(player).expect("a thread");
             print!("{}", thread.join().expect("the answers"));
         }

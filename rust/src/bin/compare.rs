@@ -1,0 +1,83 @@
+//! Times two builds of the proved library against each other: `compare FILE`. It prints a table of the checks of a script, and
+//! one of documents that some of its contracts judge and run: the least times of some questions by the new library and by the
+//! old one, and their ratio.
+
+use goosedawn::contract::Contract;
+use goosedawn::engine::{Answer, Engine};
+use goosedawn::generator::{document, Random};
+use goosedawn::library::{Library, RUN_STACK};
+use goosedawn::script::{checks, named_by_argument};
+use goosedawn::timing::{heads, in_turns, print_checks, Times};
+use std::thread;
+
+const NAMES: [&str; 2] = ["new", "old"];
+
+/// How many inner symbols documents have: two short ones, of which one fits into the small tables, and the longest.
+const SIZES: [usize; 3] = [1, 16, 511];
+
+/// Of so many contracts one is tried on documents.
+const EVERY: usize = 3;
+
+/// The most rows that an output may have.
+const ROWS: usize = 4096;
+
+/// Of some random documents of a size the one whose output has the most rows.
+fn document_with_output(contract: &Contract, size: usize) -> Vec<u16> {
+    let mut random = Random::new(1);
+    let mut rows = vec![0; 3 * ROWS];
+    let rows_used = |numbers: &Vec<u16>| match Library::old().run_here(contract, numbers, &mut rows) {
+        Answer::Run { used, .. } => used,
+        _ => 0,
+    };
+    let documents = (0..50).map(|_| document(&mut random, contract.symbols, size));
+    documents.max_by_key(rows_used).expect("a document")
+}
+
+fn checking(new: Library, old: Library, contract: &Contract, limit: usize) -> Times {
+    in_turns(
+        || format!("check {limit} {contract:?}"),
+        (vec![7; 3 * limit], vec![7; 5 * limit]),
+        |(rows, words)| new.check(contract, limit, rows, words),
+        |(rows, words)| old.check(contract, limit, rows, words),
+    )
+}
+
+fn judging(new: Library, old: Library, contract: &Contract, numbers: &[u16]) -> Times {
+    in_turns(
+        || format!("judge {numbers:?} {contract:?}"),
+        [7; 5],
+        |kind| new.judge(contract, numbers, kind),
+        |kind| old.judge(contract, numbers, kind),
+    )
+}
+
+fn running(new: Library, old: Library, contract: &Contract, numbers: &[u16]) -> Times {
+    in_turns(
+        || format!("run {ROWS} {numbers:?} {contract:?}"),
+        vec![7; 3 * ROWS],
+        |rows| new.run_here(contract, numbers, rows),
+        |rows| old.run_here(contract, numbers, rows),
+    )
+}
+
+fn compare() {
+    let script = named_by_argument("compare");
+    let (new, old) = (Library::default(), Library::old());
+    print_checks(&script, NAMES, |contract, limit| checking(new, old, contract, limit));
+    println!();
+    println!("{:<16} {:>7}  {:<8} {}", "contract", "numbers", "question", heads(NAMES));
+    for (label, contract, _) in checks(&script).iter().step_by(EVERY) {
+        for size in SIZES {
+            let numbers = document_with_output(contract, size);
+            let length = numbers.len();
+            println!("{label:<16} {length:>7}  {:<8} {}", "judge", judging(new, old, contract, &numbers));
+            println!("{label:<16} {length:>7}  {:<8} {}", "run", running(new, old, contract, &numbers));
+        }
+    }
+}
+
+/// The whole comparison has the stack that runs need, so that no time has the start of a thread in it.
+fn main() {
+    let thread = thread::Builder::new().stack_size(RUN_STACK).spawn(compare);
+    thread.expect("a thread").join().expect("a comparison");
+}
