@@ -23,19 +23,21 @@ use lanes::up;
 use lanes::wide;
 use prepared::Prepared;
 use tables::InputRow;
+use tables::InputState;
 use tables::Node;
+use tables::Procedure;
 use tables::Symbol;
 use tables::input_row_at;
 use tables::node_at;
 
 // The state that an input row names on a side.
-fn state_on(row: InputRow, on_right: bool) -> u16
-    ensures { λ r. ⌜ r ≡ stateOn «on_right» (inputRowOf row) ⌝ }
+fn state_on(row: InputRow, on_right: bool) -> InputState
+    ensures { λ r. ⌜ r .0 ≡ stateOn «on_right» (inputRowOf row) ⌝ }
 {
     if on_right {
-        return row.right.0;
+        return row.right;
     }
-    row.left.0
+    row.left
 }
 
 // That state as a single bit.
@@ -43,7 +45,8 @@ fn state_bit(row: InputRow, on_right: bool) -> u64
     requires { ⌜ stateOn «on_right» (inputRowOf row) < 64 ⌝ }
     ensures { λ r. ⌜ r ≡ stateBit (inputRowOf row) (row .symbol .0) «on_right» ⌝ }
 {
-    up(1, wide(state_on(row, on_right)))
+    let state = state_on(row, on_right);
+    up(1, wide(state.0))
 }
 
 // The states that the symbol's input rows name on a side: the rows in the symbol's chain.
@@ -115,7 +118,8 @@ fn put_call(
 {
     let side = side_number(on_right);
     if (node.tag == 2) & (node.child == side) {
-        let p = place(node.name);
+        let procedure = Procedure(node.name);
+        let p = place(procedure.0);
         let ones = ones_for(output_states, counts[p]);
         put_block(mask, ones, place(offsets[p]));
     }
