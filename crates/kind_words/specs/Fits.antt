@@ -10,7 +10,7 @@ use Rattle.model.specs.Admission.{tableLength}
 use Rattle.model.proofs.Laws.Established.{Established, GoodNode, good-parameter, good-nothing, good-symbol, good-call}
 use Rattle.kind_words.specs.Lanes.{Laid}
 use Rattle.kind_words.specs.Listed.{Layout}
-use Rattle.kind_words.specs.Kind.{Prepared, lanes-fit, offset-inside}
+use Rattle.kind_words.specs.Kind.{Prepared, RulesChained, RowsChained, lanes-fit, offset-inside}
 
 -- words of lanes over at most four states
 pub record LayoutFits (lay : Layout) : Type 0 where
@@ -58,6 +58,19 @@ pub record RowsFit (rows : List ℕ) : Type 0 where
   pub state : (r : ℕ) → r < inputRowCount rows → inputRow rows r .state < 32
   pub left : (r : ℕ) → r < inputRowCount rows → inputRow rows r .left < 32
   pub right : (r : ℕ) → r < inputRowCount rows → inputRow rows r .right < 32
+
+-- the rules, in chains
+pub record RulesIn (lay : Layout) (offsets counts rules lists : List ℕ) : Type 0 where
+  pub fit : RulesFit lay offsets counts rules
+  pub chained : RulesChained rules lists
+  pub long : 64 + ruleCount rules ≤ length lists
+
+-- the input rows, in chains, with what follows each row from a place on
+pub record RowsIn (rows lists : List ℕ) (nexts : ℕ) : Type 0 where
+  pub fit : RowsFit rows
+  pub chained : RowsChained rows lists nexts
+  pub behind : 64 ≤ nexts
+  pub long : nexts + inputRowCount rows ≤ length lists
 
 module _ {lay : Layout} {offsets counts table nodes : List ℕ} (fit : NodesFit lay offsets counts table nodes) (n : ℕ) (h : n < nodeCount nodes) where
   abbrev node : Node
@@ -173,20 +186,31 @@ module _ {C : Contract} {lay : Layout} {offsets lists : List ℕ} (prepared : Pr
         node = known .node;
       }
 
-  pub rules-fit : RulesFit lay offsets counts′ (C .transformation .rules)
-  rules-fit =
+  pub rules-in : RulesIn lay offsets counts′ (C .transformation .rules) lists
+  rules-in =
       record {
-        layout = layout-fits;
-        procedures = known .procedures .≤most;
-        procedure = procedure-fits;
-        isProcedure = λ r h. known .rule r h .procedure;
-        isNode = λ r h. omega (arith, known .rule r h .node, known .nodes .few);
+        fit =
+            record {
+              layout = layout-fits;
+              procedures = known .procedures .≤most;
+              procedure = procedure-fits;
+              isProcedure = λ r h. known .rule r h .procedure;
+              isNode = λ r h. omega (arith, known .rule r h .node, known .nodes .few);
+            };
+        chained = prepared .lists .ofRules;
+        long = omega (arith, prepared .lists .long);
       }
 
-  pub rows-fit : RowsFit (C .input .rows)
-  rows-fit =
+  pub rows-in : (nexts : ℕ) → nexts ≡ 64 + ruleCount (C .transformation .rules) → RowsIn (C .input .rows) lists nexts
+  rows-in nexts e =
       record {
-        state = λ r h. omega (arith, known .inputRow r h .state, known .inputStates .≤most);
-        left = λ r h. omega (arith, known .inputRow r h .left, known .inputStates .≤most);
-        right = λ r h. omega (arith, known .inputRow r h .right, known .inputStates .≤most);
+        fit =
+            record {
+              state = λ r h. omega (arith, known .inputRow r h .state, known .inputStates .≤most);
+              left = λ r h. omega (arith, known .inputRow r h .left, known .inputStates .≤most);
+              right = λ r h. omega (arith, known .inputRow r h .right, known .inputStates .≤most);
+            };
+        chained = rw e (prepared .lists .ofRows);
+        behind = omega arith;
+        long = omega (arith, prepared .lists .long);
       }

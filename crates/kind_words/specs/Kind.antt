@@ -25,7 +25,7 @@ use Rattle.kind_words.specs.Lanes.{Lanes, lanes-eq}
 use Rattle.kind_words.specs.Blocks.{narrowed-lanes, Holds, block-holds, nothing-holds, Words}
 use Rattle.kind_words.specs.Nodes.{LanesAre, NodeIs}
 use Rattle.kind_words.specs.Called.{OffsetsIn, Narrow}
-use Rattle.kind_words.specs.Listed.{Layout, wordsOn, AreNodes, filledTo, filled-same, Before, ListOf, StepsFrom, layout, step, filled-is, done-at}
+use Rattle.kind_words.specs.Listed.{Layout, at, wordsOn, Before, ListOf, StepsFrom, layout, filled-is, done-at}
 use Rattle.kind_words.specs.Chains.{Chained}
 use Rattle.kind_words.specs.Rules.{ruleBlock, withRule, withRules, placed, allFacts, all-facts-bit, block-is}
 use Rattle.kind_words.specs.States.{rowStates, states-are}
@@ -56,13 +56,6 @@ module _ (lists : List ℕ) (s : ℕ) (inside : getD lists s 0 + listLength list
 
   pub list-at : (i : ℕ) → i < listLength lists s → getD (listOf lists s) i 0 ≡ listed lists s i
   list-at i h = rw (getD-take, getD-drop)
-
-  pub list-of-nodes : {counts nodes : List ℕ} → ListOf counts nodes (listed lists s) (listLength lists s) → AreNodes nodes (listOf lists s)
-  list-of-nodes is i h = let l : i < listLength lists s = omega (arith, list-length) in rw (list-at i l) (is .isNode i l)
-
-  words-on-list : (step : List ℕ → ℕ → ℕ) (before : List ℕ)
-      → filledTo step (λ i. getD (listOf lists s) i 0) before (length (listOf lists s)) ≡ filledTo step (listed lists s) before (listLength lists s)
-  words-on-list step before = rw list-length (filled-same step _ _ before (listLength lists s) list-at)
 
 -- the words of the nodes that the rules for s reach
 abbrev pub nodeWords : Layout → (offsets lists counts table nodes before : List ℕ) (s : ℕ) (leftKind rightKind : List ℕ) → List ℕ
@@ -110,9 +103,9 @@ RowsChained rows lists nexts = Chained (λ r. inputRow rows r .symbol) (inputRow
 pub record ListsFor (counts nodes rules rows lists : List ℕ) : Type 0 where
   pub long : 64 + ruleCount rules + inputRowCount rows ≤ length lists
   pub inside : (s : ℕ) → s < 16 → getD lists s 0 + listLength lists s ≤ length lists
-  pub list : (s : ℕ) → s < 16 → ListOf counts nodes (listed lists s) (listLength lists s)
+  pub list : (s : ℕ) → s < 16 → ListOf counts nodes (at (listOf lists s)) (length (listOf lists s))
   pub onList : (r : ℕ) → r < ruleCount rules
-      → Before (listed lists (ruleAt rules r .symbol)) (listLength lists (ruleAt rules r .symbol)) (ruleAt rules r .node)
+      → Before (at (listOf lists (ruleAt rules r .symbol))) (length (listOf lists (ruleAt rules r .symbol))) (ruleAt rules r .node)
   pub ofRules : RulesChained rules lists
   pub ofRows : RowsChained rows lists (64 + ruleCount rules)
 
@@ -260,9 +253,6 @@ module _ (C : Contract) (lay : Layout) (offsets lists : List ℕ) (prepared : Pr
     abbrev words′ : List ℕ
     words′ = nodeWords lay′ offsets lists (C .transformation .counts) (C .output .table) (C .transformation .nodes) before s l r
 
-    abbrev step′ : List ℕ → ℕ → ℕ
-    step′ = step C K l r offsets (lay .ones) (lay .starts) (lay .first) (lay .second)
-
     abbrev block′ : ℕ → ℕ
     block′ i = ruleBlock lay′ (C .transformation .counts) (C .transformation .rules) words′ i
 
@@ -270,17 +260,13 @@ module _ (C : Contract) (lay : Layout) (offsets lists : List ℕ) (prepared : Pr
     node-is : (i : ℕ) → i < ruleCount (C .transformation .rules) → ruleAt (C .transformation .rules) i .symbol ≡ s
         → NodeIs (C .transformation) (C .output) facts′ K (ruleAt (C .transformation .rules) i .node) (getD words′ (ruleAt (C .transformation .rules) i .node) 0)
     node-is i hi e =
-        rw (words-on-list lists s (prepared .lists .inside s hs) step′ before)
-        (done-at C K l r offsets (lay .ones) (lay .starts) (lay .first) (lay .second) from (listed lists s)
-        (filledTo step′ (listed lists s) before (listLength lists s))
-        (listLength lists s)
-        _
-        (filled-is C K l r offsets (lay .ones) (lay .starts) (lay .first) (lay .second) from (listed lists s) before (listLength lists s)
+        done-at C K l r offsets (lay .ones) (lay .starts) (lay .first) (lay .second) from (at (listOf lists s)) words′ (length (listOf lists s)) _
+        (filled-is C K l r offsets (lay .ones) (lay .starts) (lay .first) (lay .second) from (at (listOf lists s)) before (length (listOf lists s))
         (prepared .lists .list s hs)
         long
-        (listLength lists s)
+        (length (listOf lists s))
         (omega arith))
-        (subst (λ (x : ℕ). Before (listed lists x) (listLength lists x) (ruleAt (C .transformation .rules) i .node)) e (prepared .lists .onList i hi)))
+        (subst (λ (x : ℕ). Before (at (listOf lists x)) (length (listOf lists x)) (ruleAt (C .transformation .rules) i .node)) e (prepared .lists .onList i hi))
 
     uses-few : (i : ℕ) → i < ruleCount (C .transformation .rules)
         → Rattle.model.specs.Expressions.greatestParameter (rightSide (C .transformation) i) ≤ countOf (C .transformation .counts) (ruleAt (C .transformation .rules) i .procedure)

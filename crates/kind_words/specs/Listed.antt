@@ -1,5 +1,5 @@
 -- The words of the nodes on a list, one after another, where what a node refers to stands on the list before the node.
-use mathlib.Core.Path.{_≡_, refl, ap, subst, _∙_}
+use mathlib.Core.Path.{_≡_, refl, ap, subst, sym, _∙_}
 use mathlib.Core.List.{List}
 use mathlib.Core.Bool.{Bool, cond}
 use Prim.Native.Nat.{ℕ, zero, suc, _+_, _^_, _<_, _≤_}
@@ -76,14 +76,18 @@ unfoldable pub filledTo : (step : List ℕ → ℕ → ℕ) (list : ℕ → ℕ)
 filledTo step list words zero = words
 filledTo step list words (suc i) = set (filledTo step list words i) (list i) (step (filledTo step list words i) (list i))
 
--- the words of the nodes on a list, where `before` is what the words were
-abbrev pub wordsOn : Layout → (offsets counts table nodes leftKind rightKind list before : List ℕ) → List ℕ
-wordsOn lay offsets counts table nodes leftKind rightKind list before =
-    filledTo (λ (words : List ℕ) (n : ℕ). nodeStep lay offsets counts table nodes leftKind rightKind words n) (λ (i : ℕ). getD list i 0) before (length list)
+-- place i of a list
+abbrev pub at : List ℕ → ℕ → ℕ
+at list i = getD list i 0
 
 -- a list of nodes
 abbrev pub AreNodes : (nodes list : List ℕ) → Type 0
-AreNodes nodes list = (i : ℕ) → i < length list → getD list i 0 < nodeCount nodes
+AreNodes nodes list = (i : ℕ) → i < length list → at list i < nodeCount nodes
+
+-- the words of the nodes on a list, where `before` is what the words were
+abbrev pub wordsOn : Layout → (offsets counts table nodes leftKind rightKind list before : List ℕ) → List ℕ
+wordsOn lay offsets counts table nodes leftKind rightKind list before =
+    filledTo (λ (words : List ℕ) (n : ℕ). nodeStep lay offsets counts table nodes leftKind rightKind words n) (at list) before (length list)
 
 pub filled-none : (step : List ℕ → ℕ → ℕ) (list : ℕ → ℕ) (words : List ℕ) → words ≡ filledTo step list words 0
 unfolding filledTo
@@ -99,14 +103,6 @@ pub length-filled : (step : List ℕ → ℕ → ℕ) (list : ℕ → ℕ) (word
 unfolding filledTo
 length-filled step list words zero = refl
 length-filled step list words (suc i) = length-set (filledTo step list words i) _ _ ∙ length-filled step list words i
-
-pub filled-same : (step : List ℕ → ℕ → ℕ) (list list′ : ℕ → ℕ) (words : List ℕ) (n : ℕ) → ((i : ℕ) → i < n → list i ≡ list′ i)
-    → filledTo step list words n ≡ filledTo step list′ words n
-unfolding filledTo
-filled-same step list list′ words zero same = refl
-filled-same step list list′ words (suc i) same =
-    let e : list i ≡ list′ i = same i (omega arith) in
-    rw (filled-same step list list′ words i (λ j l. same j (omega arith)), e)
 
 -- node n stands on the list before place i
 pub record Before (list : ℕ → ℕ) (i n : ℕ) : Type 0 where
@@ -124,6 +120,23 @@ module _ (counts nodes : List ℕ) where
   pub record ListOf (list : ℕ → ℕ) (n : ℕ) : Type 0 where
     pub isNode : (i : ℕ) → i < n → list i < nodeCount nodes
     pub after : (i : ℕ) → i < n → RefersBefore list i (list i)
+
+-- a list that has the same nodes at its first n places
+module _ (list list′ : ℕ → ℕ) (n : ℕ) (same : (i : ℕ) → i < n → list′ i ≡ list i) where
+  pub before-same : (i m : ℕ) → i ≤ n → Before list i m → Before list′ i m
+  before-same i m l b = record { at = b .at; less = b .less; eq = same (b .at) (omega (arith, b .less)) ∙ b .eq }
+
+  pub list-same : (counts nodes : List ℕ) → ListOf counts nodes list n → ListOf counts nodes list′ n
+  list-same counts nodes h =
+      record {
+        isNode = λ i l. rw (same i l) (h .isNode i l);
+        after = λ i l.
+            subst (λ (m : ℕ). RefersBefore counts nodes list′ i m) (sym (same i l))
+            (record {
+              first = λ k. before-same i _ (omega arith) (h .after i l .first k);
+              second = λ k. before-same i _ (omega arith) (h .after i l .second k);
+            });
+      }
 
 module _ (C : Contract) (K : ℕ) (l r : List ℕ) (offsets : List ℕ) (ones starts first second : ℕ) where
   abbrev O : ℕ

@@ -7,7 +7,13 @@ ghost use mathlib.Core.List.{[], _∷_};
 ghost use Prim.Native.Nat.{ℕ, _+_, _*_, _-_, _/_, _^_, _<_, _≤_};
 ghost use lib.ListN.{length, getD};
 ghost use lib.Bits.{bitAnd};
+<<<<<<< HEAD
 ghost use Rattle.kind_words.specs.Lanes.{Sized, Laid, StatesAt, symbolRow, symbolWord, callLanes};
+=======
+ghost use Rattle.kind_words.specs.Lanes.{Sized, Laid, StatesAt, symbolRow, symbolWord, callRow, callTwo, callOne};
+use tables::OutputState;
+use tables::output_state_at;
+>>>>>>> 2ec9f9b209a3e268196ea61b87c0464afff334e6
 
 // How the words of a contract are laid out: its output states, the bits in a lane, a lane of ones at state 0, the first bit
 // of each lane, and the words of the first and the second parameter.
@@ -50,6 +56,14 @@ pub fn up(word: u64, place: u64) -> u64
     word << place
 }
 
+// A lane put at an output state.
+pub fn at_state(lane: u64, state: OutputState, width: u64) -> u64
+    requires { ⌜ (state .0 * width < 64) × (lane * 2 ^ (state .0 * width) < 2 ^ 64) ⌝ }
+    ensures { λ r. ⌜ r ≡ lane * 2 ^ (state .0 * width) ⌝ }
+{
+    up(lane, state.0 as u64 * width)
+}
+
 // The bits of a word from a place on, under a mask.
 pub fn lane(word: u64, place: u64, ones: u64) -> u64
     requires { ⌜ place < 64 ⌝ }
@@ -82,8 +96,8 @@ pub fn symbol_row(
     let mut place: u64 = 0;
     let mut y: usize = 0;
     while y < states {
-        let state = wide(table[start + y]);
-        word = word | up(first & (second >> place), state * width);
+        let state = output_state_at(table, start + y);
+        word = word | at_state(first & (second >> place), state, width);
         place += width;
         y += 1;
     }

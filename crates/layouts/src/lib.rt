@@ -102,12 +102,12 @@ pub fn layout_of(states: usize, counts: &[u16]) -> Layout
     }
 }
 
-// The offset of procedure p as a table entry.
-fn offset_entry(states: usize, counts: &[u16], p: usize) -> u16
-    requires { ⌜ SmallCounts states (now counts) × (p < length (now counts)) × (offset states (now counts) p < 256) ⌝ }
-    ensures { λ r. ⌜ r ≡ offset states (now (counts .entry)) p ⌝ }
+// A procedure's offset as a table entry.
+fn offset_entry(states: usize, counts: &[u16], procedure: Procedure) -> u16
+    requires { ⌜ SmallCounts states (now counts) × (procedure .0 < length (now counts)) × (offset states (now counts) (procedure .0) < 256) ⌝ }
+    ensures { λ r. ⌜ r ≡ offset states (now (counts .entry)) (procedure .0) ⌝ }
 {
-    fact_offset(states, counts, Procedure(p as u16)) as u16
+    fact_offset(states, counts, procedure) as u16
 }
 
 // The offsets of a contract's procedures.
@@ -118,7 +118,8 @@ pub fn offsets_of(states: usize, counts: &[u16]) -> [u16; 16]
     let mut offsets = [0u16; 16];
     let mut p: usize = 0;
     while p < counts.len() {
-        offsets[p] = offset_entry(states, counts, p);
+        let procedure = Procedure(p as u16);
+        offsets[p] = offset_entry(states, counts, procedure);
         p += 1;
     }
     offsets

@@ -1,15 +1,17 @@
 -- The facts that a symbol can see on a side: those of the procedures that the nodes which its rules reach call there.
 use mathlib.Core.Path.{_≡_, refl, ap, sym, subst, _∙_}
-use mathlib.Core.List.{List, [], _∷_}
+use mathlib.Core.List.{List}
 use mathlib.Core.Bool.{Bool, true, false, _&&_}
 use Prim.Native.Nat.{ℕ, zero, suc, _+_, _*_, _-_, _/_, _%_, _^_, _<_, _≤_}
-use native.Mathlib.Nat.{not-suc-le-zero, pow-zero, pow-suc, mul-comm, mul-le-mul}
+use native.Mathlib.Nat.{not-suc-le-zero, pow-suc, mul-comm}
+use native.Mathlib.Numerals.{add-one}
 use native.Mathlib.Omega.{arith}
 use native.Mathlib.Decide.{ℕ-discrete}
 use borrow.Author.Tests.{eq-eqb, ne-eqb, eqb-true}
 use lib.Bits.{bitOr}
 use lib.Dec.{eqb}
-use lib.ListN.{length, getD, replicate}
+use lib.ListN.{length, getD, set, replicate}
+use lib.Seq.{getD-set-same, getD-set-other}
 use lib.Pow.{pow-pos, pow-mono}
 use Rattle.foundation.specs.Tests.{choose, _or_, or-left, or-right, true-test, test-true, false-test}
 use Rattle.foundation.specs.Words.{bit}
@@ -22,12 +24,12 @@ use Rattle.model.proofs.Laws.Established.{Established, GoodNode, good-parameter
 use Rattle.model.proofs.Laws.Expressions.{expression-parameter, expression-nothing, expression-symbol, expression-call}
 use Rattle.model.proofs.Laws.Facts.{offset-next}
 use Rattle.kind_words.specs.Blocks.{withBlock, Holds, block-holds, nothing-holds}
-use Rattle.kind_words.specs.Listed.{Before, ListOf}
+use Rattle.kind_words.specs.Listed.{Layout, at, AreNodes, Before, ListOf}
 use Rattle.kind_words.specs.Called.{OffsetsIn}
-use Rattle.kind_words.specs.Kind.{ListsFor, listed, listLength, lanes-fit}
+use Rattle.kind_words.specs.Kind.{Prepared, listOf, lanes-fit, offset-inside}
+use Rattle.lanes.proofs.Room.{pow-some}
 use Rattle.classes.specs.Agreement.{EachCall, EachCallOfAll}
-use Rattle.classes.specs.Masks.{ShowsFacts}
-use Rattle.classes.specs.Masks.{maskIn}
+use Rattle.classes.specs.Masks.{ShowsFacts, maskIn}
 use Rattle.masks.specs.Seen.{sideOf, statesSeen, state-seen, Sees}
 
 -- as many ones as a procedure of that many parameters has facts
@@ -52,6 +54,34 @@ unfoldable pub withCall : (O : ℕ) (counts offsets : List ℕ) → Bool → Nod
 withCall O counts offsets onRight node mask =
     choose (callsOn onRight node) (withBlock mask (onesFor O (countOf counts (node .name))) (getD offsets (node .name) 0)) mask
 
+-- each node on a list, and its call
+pub record CallsFit (O : ℕ) (counts offsets nodes list : List ℕ) : Type 0 where
+  pub isNode : AreNodes nodes list
+  pub call : (i : ℕ) → i < length list → CallFits O counts offsets (nodeAt nodes (at list i))
+
+-- the mask of the facts that the first n nodes of a list call on a side
+module _ (O : ℕ) (counts offsets nodes list : List ℕ) (onRight : Bool) where
+  unfoldable pub calledTo : ℕ → List ℕ
+  calledTo zero = replicate 6 0
+  calledTo (suc i) = withCall O counts offsets onRight (nodeAt nodes (at list i)) (calledTo i)
+
+  pub called-none : replicate 6 0 ≡ calledTo 0
+  unfolding calledTo
+  called-none = refl
+
+  pub called-more : (current next : List ℕ) (i : ℕ) → current ≡ calledTo i → next ≡ withCall O counts offsets onRight (nodeAt nodes (at list i)) current
+      → next ≡ calledTo (i + 1)
+  unfolding calledTo
+  called-more current next i e f = rw (f, e, add-one i)
+
+  -- .. and of all
+  abbrev pub factsCalled : List ℕ
+  factsCalled = calledTo (length list)
+
+-- the mask of the facts that symbol s can see on a side
+abbrev pub factsSeen : Contract → (offsets lists : List ℕ) (s : ℕ) → Bool → List ℕ
+factsSeen C offsets lists s onRight = factsCalled (C .output .states) (C .transformation .counts) offsets (C .transformation .nodes) (listOf lists s) onRight
+
 -- a mask shows the facts that the first n nodes of a list call on a side
 pub record Shown (O : ℕ) (counts nodes : List ℕ) (list : ℕ → ℕ) (onRight : Bool) (n : ℕ) (mask : List ℕ) : Type 0 where
   pub facts : ℕ
@@ -60,7 +90,7 @@ pub record Shown (O : ℕ) (counts nodes : List ℕ) (list : ℕ → ℕ) (onRig
       → k < O ^ suc (countOf counts (nodeAt nodes (list i) .name))
       → bit facts (offset O counts (nodeAt nodes (list i) .name) + k) ≡ true
 
-pub shown-none : (O : ℕ) (counts nodes : List ℕ) (list : ℕ → ℕ) (onRight : Bool) → Shown O counts nodes list onRight 0 (replicate 6 0)
+shown-none : (O : ℕ) (counts nodes : List ℕ) (list : ℕ → ℕ) (onRight : Bool) → Shown O counts nodes list onRight 0 (replicate 6 0)
 shown-none O counts nodes list onRight = record { facts = 0; holds = nothing-holds; called = λ i h. absurd (omega arith) }
 
 pub first-true : (a b : Bool) → (a && b) ≡ true → a ≡ true
@@ -73,10 +103,6 @@ or-true-left a b e = test-true _ (or-left a b (true-test a e))
 or-true-right : (a b : Bool) → b ≡ true → (a or b) ≡ true
 or-true-right a b e = test-true _ (or-right a b (true-test b e))
 
-some-power : (O k : ℕ) → 1 ≤ O → 1 ≤ O ^ k
-some-power O zero h = rw pow-zero (omega arith)
-some-power O (suc k) h = rw pow-suc (mul-le-mul (some-power O k h) h)
-
 pub ones-double : (w : ℕ) → 1 ≤ w → (2 ^ (w - 1) - 1) * 2 + 1 ≡ 2 ^ w - 1
 ones-double zero h = absurd (omega arith)
 ones-double (suc w) h =
@@ -87,12 +113,9 @@ ones-double (suc w) h =
 pub ones-room : (w : ℕ) → 1 ≤ w → w ≤ 64 → (2 ^ (w - 1) - 1) * 2 + 1 < 2 ^ 64
 ones-room w h l = let p : 2 ^ w ≤ 2 ^ 64 = pow-mono {i = w} {j = 64} l in rw (ones-double w h) (omega (arith, pow-pos w))
 
-pub square-small : (n : ℕ) → n ≤ 4 → n * n ≤ 64
-square-small n h = let m : n * n ≤ 4 * 4 = mul-le-mul h h in omega arith
-
 pub width-between : (O count : ℕ) → 1 ≤ O → O ≤ 4 → count ≤ 2 → (1 ≤ O ^ count * O) × (O ^ count * O ≤ 64)
 width-between O count h l k =
-    (rw (← pow-suc O count) (some-power O (suc count) h), rw (mul-comm (O ^ count) O) (lanes-fit O count h l k))
+    (rw (← pow-suc O count) (pow-some O (suc count) h), rw (mul-comm (O ^ count) O) (lanes-fit O count h l k))
 
 -- one node more
 module _ (C : Contract) (known : Established C) where
@@ -105,7 +128,7 @@ module _ (C : Contract) (known : Established C) where
   abbrev nodes : List ℕ
   nodes = C .transformation .nodes
 
-  pub called-known : (n : ℕ) → n < nodeCount nodes → nodeAt nodes n .tag ≡ 2 → nodeAt nodes n .name < length counts
+  called-known : (n : ℕ) → n < nodeCount nodes → nodeAt nodes n .tag ≡ 2 → nodeAt nodes n .name < length counts
   called-known n h t = go (known .node n h)
     where
       go : GoodNode (C .transformation .symbols) counts n (nodeAt nodes n) → nodeAt nodes n .name < length counts
@@ -114,10 +137,10 @@ module _ (C : Contract) (known : Established C) where
       go (good-symbol e a b x y) = absurd (omega arith)
       go (good-call e p c x y) = p
 
-  pub ones-small : (count : ℕ) → count ≤ 2 → O ^ suc count ≤ 64
+  ones-small : (count : ℕ) → count ≤ 2 → O ^ suc count ≤ 64
   ones-small count h = rw (pow-suc, mul-comm (O ^ count) O) (lanes-fit O count (known .outputStates .least≤) (known .outputStates .≤most) h)
 
-  pub shown-more : (offsets : List ℕ) → OffsetsIn C offsets → (list : ℕ → ℕ) (onRight : Bool) (i : ℕ) (mask : List ℕ) → list i < nodeCount nodes
+  shown-more : (offsets : List ℕ) → OffsetsIn C offsets → (list : ℕ → ℕ) (onRight : Bool) (i : ℕ) (mask : List ℕ) → list i < nodeCount nodes
       → Shown O counts nodes list onRight i mask
       → Shown O counts nodes list onRight (i + 1) (withCall O counts offsets onRight (nodeAt nodes (list i)) mask)
   unfolding withCall
@@ -156,7 +179,7 @@ module _ (C : Contract) (known : Established C) where
           near : nodeAt nodes (list i) .name < length counts → from < 256
           near l =
               let e : from ≡ offset O counts (nodeAt nodes (list i) .name) = places _ l in
-              omega (arith, e, offset-next O counts (nodeAt nodes (list i) .name) l, known .facts, some-power O (suc (countOf counts (nodeAt nodes (list i) .name))) (known .outputStates .least≤))
+              omega (arith, e, offset-next O counts (nodeAt nodes (list i) .name) l, known .facts, pow-some O (suc (countOf counts (nodeAt nodes (list i) .name))) (known .outputStates .least≤))
 
           more : nodeAt nodes (list i) .name < length counts → (j : ℕ) → callsOn onRight (nodeAt nodes (list j)) ≡ true → Dec (j ≡ i) → j < i + 1 → (k : ℕ)
               → k < O ^ suc (countOf counts (nodeAt nodes (list j) .name))
@@ -169,6 +192,13 @@ module _ (C : Contract) (known : Established C) where
               subst (λ (m : ℕ). bit (bitOr (s .facts) (block * 2 ^ from)) (offset O counts (nodeAt nodes (list m) .name) + k) ≡ true) (sym q)
               (bit-or (s .facts) (block * 2 ^ from) (offset O counts (nodeAt nodes (list i) .name) + k)
               ∙ or-true-right (bit (s .facts) (offset O counts (nodeAt nodes (list i) .name) + k)) _ (ap (λ (f : ℕ). bit (block * 2 ^ from) (f + k)) (sym (places (nodeAt nodes (list i) .name) l)) ∙ bit-shl block from k ∙ bit-ones (O ^ suc (countOf counts (nodeAt nodes (list i) .name))) k hi))
+
+  shown-to : (offsets : List ℕ) → OffsetsIn C offsets → (list : List ℕ) → AreNodes nodes list → (onRight : Bool) (n : ℕ) → n ≤ length list
+      → Shown O counts nodes (at list) onRight n (calledTo O counts offsets nodes list onRight n)
+  unfolding calledTo
+  shown-to offsets places list are onRight zero h = shown-none O counts nodes (at list) onRight
+  shown-to offsets places list are onRight (suc i) h =
+      rw (add-one i) at (shown-more offsets places (at list) onRight i _ (are i (omega arith)) (shown-to offsets places list are onRight i (omega arith)))
 
 -- what every listed call satisfies holds of each call of a listed node's expression
 module _ (S : ℕ) (counts nodes : List ℕ) (good : (n : ℕ) → n < nodeCount nodes → GoodNode S counts n (nodeAt nodes n)) (list : ℕ → ℕ) (n : ℕ)
@@ -205,108 +235,97 @@ module _ (S : ℕ) (counts nodes : List ℕ) (good : (n : ℕ) → n < nodeCount
   pub each-listed : (m : ℕ) → Before list n m → Held m
   each-listed m b = at-place n m (λ j l. each-below n j l l) b
 
--- the mask of the states and facts that a symbol can see
-unfoldable pub joined : ℕ → List ℕ → List ℕ
-joined states facts = states ∷ getD facts 1 0 ∷ getD facts 2 0 ∷ getD facts 3 0 ∷ getD facts 4 0 ∷ 0 ∷ []
-
-pub joined-sees : (C : Contract) → Established C → (lists : List ℕ)
-    → ListsFor (C .transformation .counts) (C .transformation .nodes) (C .transformation .rules) (C .input .rows) lists
-    → (s : ℕ) → s < 16 → (onRight : Bool) (facts : List ℕ)
-    → Shown (C .output .states) (C .transformation .counts) (C .transformation .nodes) (listed lists s) onRight (listLength lists s) facts
-    → Sees C s onRight (maskIn (joined (statesSeen (C .input .rows) s onRight) facts) 0)
-unfolding joined
-joined-sees C known lists prepared s h onRight facts shown =
-    record {
-      calls = λ r l e.
-          each-listed (C .transformation .symbols) (C .transformation .counts) (C .transformation .nodes) (known .node) (listed lists s) (listLength lists s)
-          (prepared .list s h) _ calls (ruleAt (C .transformation .rules) r .node)
-          (subst (λ (x : ℕ). Before (listed lists x) (listLength lists x) (ruleAt (C .transformation .rules) r .node)) e (prepared .onList r l));
-      states = λ k l e. state-seen (C .input .rows) s onRight k l e;
-    }
+left-not-right : left ≡ right → ⊥
+left-not-right e = subst (λ (c : Child). isLeft c) e tt
   where
-    word : (w : ℕ) → w < 4 → getD (maskIn (joined (statesSeen (C .input .rows) s onRight) facts) 0) (1 + w) 0 ≡ getD facts (1 + w) 0
-    word zero l = refl
-    word (suc zero) l = refl
-    word (suc (suc zero)) l = refl
-    word (suc (suc (suc zero))) l = refl
-    word (suc (suc (suc (suc w)))) l = absurd (omega arith)
+    isLeft : Child → Type 0
+    isLeft left = Unit {0}
+    isLeft right = ⊥
 
-    child-on : (c : ℕ) (b : Bool) → 1 ≤ c → c ≤ 2 → childOf c ≡ sideOf b → eqb c (choose b 2 1) ≡ true
-    child-on zero b l m e = absurd (omega arith)
-    child-on (suc zero) false l m e = refl
-    child-on (suc zero) true l m e = absurd (apart e)
-      where
-        apart : left ≡ right → ⊥
-        apart e = subst (λ (c : Child). side c) e tt
-          where
-            side : Child → Type 0
-            side left = Unit {0}
-            side right = ⊥
-    child-on (suc (suc zero)) true l m e = refl
-    child-on (suc (suc zero)) false l m e = absurd (apart e)
-      where
-        apart : right ≡ left → ⊥
-        apart e = subst (λ (c : Child). side c) e tt
-          where
-            side : Child → Type 0
-            side right = Unit {0}
-            side left = ⊥
-    child-on (suc (suc (suc c))) b l m e = absurd (omega arith)
+child-on : (c : ℕ) (b : Bool) → 1 ≤ c → c ≤ 2 → childOf c ≡ sideOf b → eqb c (choose b 2 1) ≡ true
+child-on zero b l m e = absurd (omega arith)
+child-on (suc zero) false l m e = refl
+child-on (suc zero) true l m e = absurd (left-not-right e)
+child-on (suc (suc zero)) true l m e = refl
+child-on (suc (suc zero)) false l m e = absurd (left-not-right (sym e))
+child-on (suc (suc (suc c))) b l m e = absurd (omega arith)
 
-    on-side : (n : ℕ) → n < nodeCount (C .transformation .nodes) → nodeAt (C .transformation .nodes) n .tag ≡ 2
-        → childOf (nodeAt (C .transformation .nodes) n .child) ≡ sideOf onRight
-        → callsOn onRight (nodeAt (C .transformation .nodes) n) ≡ true
-    on-side n l t e = go (known .node n l)
-      where
-        go : GoodNode (C .transformation .symbols) (C .transformation .counts) n (nodeAt (C .transformation .nodes) n)
-            → callsOn onRight (nodeAt (C .transformation .nodes) n) ≡ true
-        go (good-parameter e a b) = absurd (omega arith)
-        go (good-nothing e z) = absurd (omega arith)
-        go (good-symbol e a b x y) = absurd (omega arith)
-        go (good-call u p c x y) = rw (eq-eqb _ _ t) (child-on (nodeAt (C .transformation .nodes) n .child) onRight (c .least≤) (c .≤most) e)
+-- what a prepared contract has for symbol s
+module _ {C : Contract} {lay : Layout} {offsets lists : List ℕ} (prepared : Prepared C lay offsets lists) (s : ℕ) (h : s < 16) where
+  abbrev known′ : Established C
+  known′ = prepared .established
 
-    calls : (i : ℕ) → i < listLength lists s → nodeAt (C .transformation .nodes) (listed lists s i) .tag ≡ 2
-        → childOf (nodeAt (C .transformation .nodes) (listed lists s i) .child) ≡ sideOf onRight
-        → ShowsFacts (C .output .states) (C .transformation .counts) (maskIn (joined (statesSeen (C .input .rows) s onRight) facts) 0)
-        (nodeAt (C .transformation .nodes) (listed lists s i) .name)
-    calls i l t e =
-        let n : ℕ = listed lists s i in
-        let p : ℕ = nodeAt (C .transformation .nodes) (listed lists s i) .name in
-        let isNode = prepared .list s h .isNode i l in
-        let is : p < length (C .transformation .counts) = called-known C known n isNode t in
-        record {
-          fact = λ k hk.
-              let f : ℕ = offset (C .output .states) (C .transformation .counts) p + k in
-              let low : f < 256 = omega (arith, offset-next (C .output .states) (C .transformation .counts) p is, known .facts) in
-              ap (λ (x : ℕ). bit x (f % 64)) (word (f / 64) (omega arith)) ∙ shown .holds .bits f (omega arith) ∙ shown .called i l (on-side n isNode t e) k hk;
-        }
+  -- the calls on a symbol's list fit
+  pub calls-fit : CallsFit (C .output .states) (C .transformation .counts) offsets (C .transformation .nodes) (listOf lists s)
+  calls-fit =
+      record {
+        isNode = prepared .lists .list s h .isNode;
+        call = λ i l.
+            let n : ℕ = at (listOf lists s) i in
+            let is = called-known C known′ n (prepared .lists .list s h .isNode i l) in
+            record {
+              least = known′ .outputStates .least≤;
+              most = known′ .outputStates .≤most;
+              few = known′ .count _;
+              procedures = known′ .procedures .≤most;
+              named = is;
+              near = λ t. rw (prepared .place _ (is t)) (offset-inside C known′ _ (is t));
+            };
+      }
 
--- what the masks are made from: an admitted contract, its procedures' offsets, and the nodes that each symbol's rules reach
-pub record Placed (C : Contract) (offsets listing : List ℕ) : Type 0 where
-  pub established : Established C
-  pub places : OffsetsIn C offsets
-  pub lists : ListsFor (C .transformation .counts) (C .transformation .nodes) (C .transformation .rules) (C .input .rows) listing
+  -- the states and the facts that a symbol can see, in one mask
+  pub mask-sees : (onRight : Bool) → Sees C s onRight (maskIn (set (factsSeen C offsets lists s onRight) 0 (statesSeen (C .input .rows) s onRight)) 0)
+  mask-sees onRight =
+      record {
+        calls = λ r l e.
+            each-listed (C .transformation .symbols) (C .transformation .counts) (C .transformation .nodes) (known′ .node) (at list) (length list)
+            (prepared .lists .list s h) _ calls (ruleAt (C .transformation .rules) r .node)
+            (subst (λ (x : ℕ). Before (at (listOf lists x)) (length (listOf lists x)) (ruleAt (C .transformation .rules) r .node)) e (prepared .lists .onList r l));
+        states = λ k l e. rw (getD-set-same facts 0 states 0 (omega (arith, shown .holds .long))) (state-seen (C .input .rows) s onRight k l e);
+      }
+    where
+      list : List ℕ
+      list = listOf lists s
 
-pub call-fits : (C : Contract) → Established C → (offsets : List ℕ) → OffsetsIn C offsets → (n : ℕ) → n < nodeCount (C .transformation .nodes)
-    → CallFits (C .output .states) (C .transformation .counts) offsets (nodeAt (C .transformation .nodes) n)
-call-fits C known offsets places n h =
-    record {
-      least = known .outputStates .least≤;
-      most = known .outputStates .≤most;
-      few = known .count _;
-      procedures = known .procedures .≤most;
-      named = called-known C known n h;
-      near = λ t. near (called-known C known n h t);
-    }
-  where
-    near : nodeAt (C .transformation .nodes) n .name < length (C .transformation .counts) → getD offsets (nodeAt (C .transformation .nodes) n .name) 0 < 256
-    near l =
-        let p : ℕ = nodeAt (C .transformation .nodes) n .name in
-        let e : getD offsets p 0 ≡ offset (C .output .states) (C .transformation .counts) p = places p l in
-        omega (
-          arith,
-          e,
-          offset-next (C .output .states) (C .transformation .counts) p l,
-          known .facts,
-          some-power (C .output .states) (suc (countOf (C .transformation .counts) p)) (known .outputStates .least≤),
-        )
+      facts : List ℕ
+      facts = factsSeen C offsets lists s onRight
+
+      states : ℕ
+      states = statesSeen (C .input .rows) s onRight
+
+      shown : Shown (C .output .states) (C .transformation .counts) (C .transformation .nodes) (at list) onRight (length list) facts
+      shown = shown-to C known′ offsets (prepared .place) list (prepared .lists .list s h .isNode) onRight (length list) (omega arith)
+
+      word : (w : ℕ) → w < 4 → getD (maskIn (set facts 0 states) 0) (1 + w) 0 ≡ getD facts (1 + w) 0
+      word zero l = getD-set-other facts 0 1 states 0 (λ e. omega arith)
+      word (suc zero) l = getD-set-other facts 0 2 states 0 (λ e. omega arith)
+      word (suc (suc zero)) l = getD-set-other facts 0 3 states 0 (λ e. omega arith)
+      word (suc (suc (suc zero))) l = getD-set-other facts 0 4 states 0 (λ e. omega arith)
+      word (suc (suc (suc (suc w)))) l = absurd (omega arith)
+
+      on-side : (n : ℕ) → n < nodeCount (C .transformation .nodes) → nodeAt (C .transformation .nodes) n .tag ≡ 2
+          → childOf (nodeAt (C .transformation .nodes) n .child) ≡ sideOf onRight
+          → callsOn onRight (nodeAt (C .transformation .nodes) n) ≡ true
+      on-side n l t e = go (known′ .node n l)
+        where
+          go : GoodNode (C .transformation .symbols) (C .transformation .counts) n (nodeAt (C .transformation .nodes) n)
+              → callsOn onRight (nodeAt (C .transformation .nodes) n) ≡ true
+          go (good-parameter e a b) = absurd (omega arith)
+          go (good-nothing e z) = absurd (omega arith)
+          go (good-symbol e a b x y) = absurd (omega arith)
+          go (good-call u p c x y) = rw (eq-eqb _ _ t) (child-on (nodeAt (C .transformation .nodes) n .child) onRight (c .least≤) (c .≤most) e)
+
+      calls : (i : ℕ) → i < length list → nodeAt (C .transformation .nodes) (at list i) .tag ≡ 2
+          → childOf (nodeAt (C .transformation .nodes) (at list i) .child) ≡ sideOf onRight
+          → ShowsFacts (C .output .states) (C .transformation .counts) (maskIn (set facts 0 states) 0) (nodeAt (C .transformation .nodes) (at list i) .name)
+      calls i l t e =
+          let n : ℕ = at list i in
+          let p : ℕ = nodeAt (C .transformation .nodes) (at list i) .name in
+          let isNode = prepared .lists .list s h .isNode i l in
+          let is : p < length (C .transformation .counts) = called-known C known′ n isNode t in
+          record {
+            fact = λ k hk.
+                let f : ℕ = offset (C .output .states) (C .transformation .counts) p + k in
+                let low : f < 256 = omega (arith, offset-next (C .output .states) (C .transformation .counts) p is, known′ .facts) in
+                ap (λ (x : ℕ). bit x (f % 64)) (word (f / 64) (omega arith)) ∙ shown .holds .bits f (omega arith) ∙ shown .called i l (on-side n isNode t e) k hk;
+          }

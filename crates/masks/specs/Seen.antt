@@ -5,6 +5,7 @@ use mathlib.Core.List.{List}
 use mathlib.Core.Bool.{Bool, true, false}
 use Prim.Native.Nat.{ℕ, zero, suc, _+_, _*_, _^_, _<_, _≤_}
 use native.Mathlib.Nat.{add-zero}
+use native.Mathlib.Numerals.{add-one}
 use native.Mathlib.Omega.{arith}
 use native.Mathlib.Decide.{ℕ-discrete}
 use borrow.Author.Tests.{eq-eqb, ne-eqb}
@@ -19,11 +20,10 @@ use Rattle.model.specs.Tables.{Contract, InputRow, inputRow, inputRowCount, rul
 use Rattle.model.specs.Expressions.{Child, left, right, Expression, parameter, nothing, symbol, call, Arguments, none, argument}
 use Rattle.model.specs.Outputs.{rightSide}
 use Rattle.model.specs.Facts.{onSide}
-use Rattle.model.proofs.Laws.Established.{Established}
 use Rattle.kind_words.specs.Chains.{NextFrom, or-first, or-next}
+use Rattle.kind_words.specs.Fits.{RowsFit}
 use Rattle.classes.specs.Agreement.{EachCall, EachCallOfAll}
-use Rattle.classes.specs.Masks.{ShowsFacts}
-use Rattle.classes.specs.Masks.{maskIn, Covered}
+use Rattle.classes.specs.Masks.{ShowsFacts, maskIn, Covered}
 
 -- the side that a flag names
 abbrev pub sideOf : Bool → Child
@@ -73,10 +73,9 @@ state-seen rows s onRight k h e =
     let own : bit (stateBit (inputRow rows k) s onRight) i ≡ true = rw (eq-eqb _ _ e) (own-bit i) in
     orTo-bit _ (inputRowCount rows) i ∙ test-true _ (some-intro _ _ k h (true-test _ own))
 
-pub state-small : (C : Contract) → Established C → (onRight : Bool) (k : ℕ) → k < inputRowCount (C .input .rows)
-    → stateOn onRight (inputRow (C .input .rows) k) < 64
-state-small C known false k h = omega (arith, known .inputRow k h .left, known .inputStates .≤most)
-state-small C known true k h = omega (arith, known .inputRow k h .right, known .inputStates .≤most)
+pub state-small : {rows : List ℕ} → RowsFit rows → (onRight : Bool) (k : ℕ) → k < inputRowCount rows → stateOn onRight (inputRow rows k) < 64
+state-small fit false k h = omega (arith, fit .left k h)
+state-small fit true k h = omega (arith, fit .right k h)
 
 -- a mask shows what symbol s can see on a side
 pub record Sees (C : Contract) (s : ℕ) (onRight : Bool) (mask : List ℕ) : Type 0 where
@@ -124,55 +123,60 @@ covered C leftMasks rightMasks l r =
     both s left p f g = f refl
     both s right p f g = g refl
 
--- the mask of symbol s put among the masks
-unfoldable pub stored : List ℕ → ℕ → List ℕ → List ℕ
-stored masks s mask =
-    set (set (set (set (set masks (5 * s) (getD mask 0 0)) (5 * s + 1) (getD mask 1 0)) (5 * s + 2) (getD mask 2 0)) (5 * s + 3) (getD mask 3 0))
-    (5 * s + 4) (getD mask 4 0)
+-- the first n words of the mask of symbol s put among the masks
+unfoldable pub storedTo : (masks : List ℕ) (s : ℕ) (mask : List ℕ) → ℕ → List ℕ
+storedTo masks s mask zero = masks
+storedTo masks s mask (suc n) = set (storedTo masks s mask n) (5 * s + n) (getD mask n 0)
+
+-- .. and all of it
+abbrev pub stored : (masks : List ℕ) (s : ℕ) (mask : List ℕ) → List ℕ
+stored masks s mask = storedTo masks s mask 5
 
 module _ (masks : List ℕ) (s : ℕ) (mask : List ℕ) where
-  abbrev value : ℕ → ℕ
-  value i = getD mask i 0
+  abbrev put : ℕ → List ℕ
+  put n = storedTo masks s mask n
 
-  abbrev firstPut : ℕ → List ℕ
-  firstPut zero = masks
-  firstPut (suc n) = set (firstPut n) (5 * s + n) (value n)
+  pub stored-none : masks ≡ put 0
+  unfolding storedTo
+  stored-none = refl
 
-  long : (n : ℕ) → length (firstPut n) ≡ length masks
+  pub stored-more : (current : List ℕ) (i place : ℕ) → current ≡ put i → place ≡ 5 * s + i → set current place (getD mask i 0) ≡ put (i + 1)
+  unfolding storedTo
+  stored-more current i place e f = rw (e, f, add-one i)
+
+  long : (n : ℕ) → length (put n) ≡ length masks
+  unfolding storedTo
   long zero = refl
-  long (suc n) = length-set (firstPut n) (5 * s + n) (value n) ∙ long n
+  long (suc n) = length-set (put n) (5 * s + n) (getD mask n 0) ∙ long n
 
-  kept : (n j : ℕ) → ((i : ℕ) → i < n → (j ≡ 5 * s + i → ⊥)) → getD (firstPut n) j 0 ≡ getD masks j 0
+  kept : (n j : ℕ) → ((i : ℕ) → i < n → (j ≡ 5 * s + i → ⊥)) → getD (put n) j 0 ≡ getD masks j 0
+  unfolding storedTo
   kept zero j h = refl
-  kept (suc n) j h = getD-set-other (firstPut n) (5 * s + n) j (value n) 0 (h n (omega arith)) ∙ kept n j (λ i l. h i (omega arith))
+  kept (suc n) j h = getD-set-other (put n) (5 * s + n) j (getD mask n 0) 0 (h n (omega arith)) ∙ kept n j (λ i l. h i (omega arith))
 
-  put : (n i : ℕ) → i < n → 5 * s + n ≤ length masks → getD (firstPut n) (5 * s + i) 0 ≡ value i
-  put zero i h l = absurd (omega arith)
-  put (suc n) i h l = go (λ k. put n i k (omega arith)) (ℕ-discrete i n)
+  put-at : (n i : ℕ) → i < n → 5 * s + n ≤ length masks → getD (put n) (5 * s + i) 0 ≡ getD mask i 0
+  unfolding storedTo
+  put-at zero i h l = absurd (omega arith)
+  put-at (suc n) i h l = go (λ k. put-at n i k (omega arith)) (ℕ-discrete i n)
     where
-      go : (i < n → getD (firstPut n) (5 * s + i) 0 ≡ value i) → Dec (i ≡ n) → getD (firstPut (suc n)) (5 * s + i) 0 ≡ value i
-      go before (yes e) = rw e (getD-set-same (firstPut n) (5 * s + n) (value n) 0 (rw (long n) (omega arith)))
-      go before (no ne) = getD-set-other (firstPut n) (5 * s + n) (5 * s + i) (value n) 0 (λ e. omega arith) ∙ before (omega arith)
-
-  five : stored masks s mask ≡ firstPut 5
-  unfolding stored
-  five = ap (λ (j : ℕ). set (set (set (set (set masks j (value 0)) (5 * s + 1) (value 1)) (5 * s + 2) (value 2)) (5 * s + 3) (value 3)) (5 * s + 4) (value 4)) (sym (add-zero (5 * s)))
+      go : (i < n → getD (put n) (5 * s + i) 0 ≡ getD mask i 0) → Dec (i ≡ n) → getD (put (suc n)) (5 * s + i) 0 ≡ getD mask i 0
+      go before (yes e) = rw e (getD-set-same (put n) (5 * s + n) (getD mask n 0) 0 (rw (long n) (omega arith)))
+      go before (no ne) = getD-set-other (put n) (5 * s + n) (5 * s + i) (getD mask n 0) 0 (λ e. omega arith) ∙ before (omega arith)
 
   stored-here : 5 * s + 5 ≤ length masks → maskIn (stored masks s mask) s ≡ maskIn mask 0
   stored-here h =
-      let at : (i : ℕ) → i < 5 → getD (stored masks s mask) (5 * s + i) 0 ≡ value i = λ i l. rw five (put 5 i l h) in
-      let at0 : getD (stored masks s mask) (5 * s) 0 ≡ value 0 = rw add-zero at (at 0 (omega arith)) in
+      let at : (i : ℕ) → i < 5 → getD (put 5) (5 * s + i) 0 ≡ getD mask i 0 = λ i l. put-at 5 i l h in
+      let at0 : getD (put 5) (5 * s) 0 ≡ getD mask 0 0 = rw add-zero at (at 0 (omega arith)) in
       rw (at0, at 1 (omega arith), at 2 (omega arith), at 3 (omega arith), at 4 (omega arith))
 
   stored-other : (t : ℕ) → (t ≡ s → ⊥) → maskIn (stored masks s mask) t ≡ maskIn masks t
   stored-other t ne =
-      let at : (j : ℕ) → ((i : ℕ) → i < 5 → (j ≡ 5 * s + i → ⊥)) → getD (stored masks s mask) j 0 ≡ getD masks j 0 = λ j l. rw five (kept 5 j l) in
       rw (
-        at (5 * t) (λ i l e. omega arith),
-        at (5 * t + 1) (λ i l e. omega arith),
-        at (5 * t + 2) (λ i l e. omega arith),
-        at (5 * t + 3) (λ i l e. omega arith),
-        at (5 * t + 4) (λ i l e. omega arith),
+        kept 5 (5 * t) (λ i l e. omega arith),
+        kept 5 (5 * t + 1) (λ i l e. omega arith),
+        kept 5 (5 * t + 2) (λ i l e. omega arith),
+        kept 5 (5 * t + 3) (λ i l e. omega arith),
+        kept 5 (5 * t + 4) (λ i l e. omega arith),
       )
 
 -- the masks with one symbol's mask more

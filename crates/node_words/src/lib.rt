@@ -16,17 +16,17 @@ use blocks::facts_from;
 use blocks::lane_of_ones;
 use blocks::widen;
 use lanes::Layout;
+use lanes::at_state;
 use lanes::call_row;
 use lanes::call_two;
 use lanes::place;
 use lanes::place_at;
 use lanes::spread;
 use lanes::symbol_word;
-use lanes::up;
-use lanes::wide;
 use tables::Procedure;
 use tables::Symbol;
 use tables::node_at;
+use tables::output_state_at;
 
 // The facts of a procedure of that many parameters in a kind, from its first fact's number on, as a word of lanes.
 fn procedure_word(layout: Layout, count: u16, number: usize, kind: &[u64; 6]) -> u64
@@ -106,7 +106,7 @@ fn output_word(
     ensures { λ r. ⌜ r ≡ outputWord (layout .states) (layout .width) (layout .ones) (now (table .entry)) (symbol .0) (getD (now (words .entry)) first 0) (getD (now (words .entry)) second 0) ⌝ }
 {
     if symbol.0 == 0 {
-        return up(layout.ones, wide(table[0]) * layout.width);
+        return at_state(layout.ones, output_state_at(table, 0), layout.width);
     }
     let states = layout.states;
     let start = 1 + (place(symbol.0) - 1) * states * states;

@@ -12,9 +12,9 @@ use lib.Seq.{getD-set-same, getD-set-other}
 use Rattle.foundation.specs.Tests.{choose}
 use Rattle.model.specs.Tables.{inputRow, inputRowCount, nodeCount, ruleAt, ruleCount}
 use Rattle.model.proofs.Laws.Established.{GoodNodes}
-use Rattle.kind_words.specs.Listed.{Before, ListOf, RefersBefore}
+use Rattle.kind_words.specs.Listed.{at, Before, ListOf, before-same, list-same}
 use Rattle.kind_words.specs.Chains.{chained-same}
-use Rattle.kind_words.specs.Kind.{listed, listLength, ListsFor, RulesChained}
+use Rattle.kind_words.specs.Kind.{listed, listLength, listOf, list-length, list-at, ListsFor, RulesChained}
 use Rattle.chains.specs.Chaining.{Chaining}
 use Rattle.reaching.specs.Marks.{Marked, counted, Closed, RulesMarked, RulesGood, first-smaller, second-smaller}
 
@@ -174,23 +174,6 @@ counted-small mark = go (eqb mark 1)
     go true = omega arith
     go false = omega arith
 
--- a list that has the same nodes at its first n places
-module _ (list list′ : ℕ → ℕ) (n : ℕ) (same : (i : ℕ) → i < n → list′ i ≡ list i) where
-  before-same : (i m : ℕ) → i ≤ n → Before list i m → Before list′ i m
-  before-same i m l b = record { at = b .at; less = b .less; eq = same (b .at) (omega (arith, b .less)) ∙ b .eq }
-
-  list-same : (counts nodes : List ℕ) → ListOf counts nodes list n → ListOf counts nodes list′ n
-  list-same counts nodes h =
-      record {
-        isNode = λ i l. rw (same i l) (h .isNode i l);
-        after = λ i l.
-            subst (λ (m : ℕ). RefersBefore counts nodes list′ i m) (sym (same i l))
-            (record {
-              first = λ k. before-same i _ (omega arith) (h .after i l .first k);
-              second = λ k. before-same i _ (omega arith) (h .after i l .second k);
-            });
-      }
-
 -- the lists of the symbols below s, one after another from a place on; what stands before that place, from 32 on, is kept
 pub record ListedTo (counts nodes rules : List ℕ) (start s end : ℕ) (before lists : List ℕ) : Type 0 where
   pub long : length lists ≡ length before
@@ -345,12 +328,22 @@ pub listed-all : (counts nodes rules rows : List ℕ) (start end from : ℕ) (be
 listed-all counts nodes rules rows start end from before ofRules ofRows lists good ef es rulesChained rowsChained h =
     record {
       long = omega (arith, h .after, h .room, h .long);
-      inside = λ s l. omega (arith, h .inside s l, h .room, h .long);
-      list = h .list;
-      onList = λ r l. h .onList r l (good .symbol r l);
+      inside = within;
+      list = λ s l.
+          let own = within s l in
+          rw (list-length lists s own) (list-same (listed lists s) (at (listOf lists s)) (listLength lists s) (list-at lists s own) counts nodes (h .list s l));
+      onList = λ r l.
+          let s : ℕ = ruleAt rules r .symbol in
+          let k : s < 16 = good .symbol r l in
+          let own = within s k in
+          rw (list-length lists s own)
+          (before-same (listed lists s) (at (listOf lists s)) (listLength lists s) (list-at lists s own) (listLength lists s) (ruleAt rules r .node) (omega arith) (h .onList r l k));
       ofRules = rules-kept counts nodes rules start 16 end ofRows lists h (omega arith) (rules-through rules rows from before ofRules ofRows ef rulesChained rowsChained);
       ofRows =
           chained-same _ _ 48 (64 + ruleCount rules) 0 ofRows lists
           (record { first = λ t l. h .kept (48 + t) (omega arith) (omega arith); next = λ r l. h .kept (64 + ruleCount rules + r) (omega arith) (omega arith) })
           (rw (← ef) (rowsChained .chained));
     }
+  where
+    within : (s : ℕ) → s < 16 → getD lists s 0 + listLength lists s ≤ length lists
+    within s l = omega (arith, h .inside s l, h .room, h .long)

@@ -12,7 +12,9 @@ ghost use Rattle.reaching.specs.Marks.{markedIf, referredMarked, Closed,
 ghost use Rattle.reaching.specs.Listing.{Listing, SymbolListed, ListedTo};
 use chains::chain_rows;
 use chains::chain_rules;
+use chains::first_rule;
 use chains::rows_from;
+use chains::rule_after;
 use lanes::place;
 use tables::Symbol;
 use tables::node_at;
@@ -69,10 +71,10 @@ fn mark_rules(rules: &[u16], lists: &[u16], symbol: Symbol, marks: &mut [u16])
     ensures { λ _. ⌜ RulesMarked (now (rules .entry)) (symbol .0) (ruleCount (now (rules .entry))) (now (marks .exit)) ⌝ }
 {
     let n = rules.len() / 3;
-    let mut r = place(lists[32 + place(symbol.0)]);
+    let mut r = first_rule(lists, symbol);
     while r < n {
         mark_rule(rules, marks, r);
-        r = place(lists[64 + r]);
+        r = rule_after(lists, r);
     }
 }
 
@@ -114,8 +116,7 @@ fn has_rules(rules: &[u16], lists: &[u16], symbol: Symbol) -> bool
     requires { ⌜ (symbol .0 < 16) × (64 ≤ length (now lists)) ⌝ }
     ensures { λ r. ⌜ r ≡ ltb (getD (now (lists .entry)) (32 + symbol .0) 0) (ruleCount (now (rules .entry))) ⌝ }
 {
-    let n = rules.len() / 3;
-    place(lists[32 + place(symbol.0)]) < n
+    first_rule(lists, symbol) < rules.len() / 3
 }
 
 // Lists the nodes that the rules for a symbol reach, with room for marks, and returns how many they are.

@@ -1,8 +1,7 @@
 -- A prepared contract has its rules in chains.
 use mathlib.Core.Path.{_∙_}
-use native.Mathlib.Omega.{arith}
 use borrow.Author.Needs.{needs}
-use Rattle.kind_words.specs.Fits.{rules-fit}
+use Rattle.kind_words.specs.Fits.{rules-in}
 use Rattle.kinds.proofs.facts_for.Statement.{statement}
 use Rattle.kinds.proofs.facts_for.Tie as tie
 
@@ -43,9 +42,7 @@ part-add-rules-end-3 : tie.Need-part-add-rules-end-3
 part-add-rules-end-3 c = search needs
 
 add-rules-requires : tie.Need-add-rules-requires
-add-rules-requires c κs =
-    let made = c .before .before .before .before .before .before .before .before .before .pre .0 .prepared in
-    (rules-fit made, made .lists .ofRules, omega (arith, made .lists .long), c .before .before .before .before .before .before .before .before .before .pre .1)
+add-rules-requires c κs = (rules-in (c .before .before .before .before .before .before .before .before .before .pre .0 .prepared), c .before .before .before .before .before .before .before .before .before .pre .1)
 
 returns : tie.Need-returns
 returns c = c .add-rules .ensures ∙ rw (c .before .before .before .before .before .before .no-facts .ensures)

@@ -2,9 +2,7 @@
 use mathlib.Core.Path.{_∙_}
 use native.Mathlib.Omega.{arith}
 use borrow.Author.Needs.{needs}
-use Rattle.kind_words.specs.Kind.{list-of-nodes}
 use Rattle.kind_words.specs.Fits.{nodes-fit}
-use Rattle.prepared.specs.Parts.{listsIn}
 use Rattle.kinds.proofs.fill_words_for.Statement.{statement}
 use Rattle.kinds.proofs.fill_words_for.Tie as tie
 
@@ -58,10 +56,8 @@ list-of-requires c κs = (c .before .before .before .before .before .before .bef
 
 fill-words-requires : tie.Need-fill-words-requires
 fill-words-requires c κs =
-    let lists = c .before .before .before .before .before .before .before .before .before .before .before .pre .0 .prepared .lists in
-    let s = c .before .before .before .before .before .before .before .before .before .before .before .args .symbol .0 in
-    let list = list-of-nodes (listsIn (c .before .before .before .before .before .before .before .before .before .before .before .args .prepared) (c .before .before .before .before .before .before .before .before .before .before .before .args .table .now)) s (lists .inside s (c .before .before .before .before .before .before .before .before .before .before .before .pre .1)) (lists .list s (c .before .before .before .before .before .before .before .before .before .before .before .pre .1)) in
-    (nodes-fit (c .before .before .before .before .before .before .before .before .before .before .before .pre .0 .prepared), rw (c .before .list-of .ensures) list, omega (arith, c .before .before .before .before .before .before .before .before .before .before .before .pre .0 .prepared .established .nodes .few, c .before .before .before .before .before .before .before .before .before .before .before .pre .2))
+    let made = c .before .before .before .before .before .before .before .before .before .before .before .pre .0 .prepared in
+    (nodes-fit made, rw (c .before .list-of .ensures) (made .lists .list (c .before .before .before .before .before .before .before .before .before .before .before .args .symbol .0) (c .before .before .before .before .before .before .before .before .before .before .before .pre .1) .isNode), omega (arith, made .established .nodes .few, c .before .before .before .before .before .before .before .before .before .before .before .pre .2))
 
 same-length : tie.Need-same-length
 same-length c = search needs

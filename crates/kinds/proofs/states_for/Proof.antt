@@ -1,7 +1,6 @@
 -- A prepared contract has its input rows in chains, from where its rules' chains end.
-use native.Mathlib.Omega.{arith}
 use borrow.Author.Needs.{needs}
-use Rattle.kind_words.specs.Fits.{rows-fit}
+use Rattle.kind_words.specs.Fits.{rows-in}
 use Rattle.kinds.proofs.states_for.Statement.{statement}
 use Rattle.kinds.proofs.states_for.Tie as tie
 
@@ -45,14 +44,7 @@ part-reached-states-end-2 : tie.Need-part-reached-states-end-2
 part-reached-states-end-2 c = search needs
 
 reached-states-requires : tie.Need-reached-states-requires
-reached-states-requires c κs =
-    let made = c .before .before .before .before .before .pre .0 .prepared in (
-      rows-fit made,
-      rw (c .before .before .rows-from .ensures) (made .lists .ofRows),
-      omega (arith, c .before .before .rows-from .ensures),
-      omega (arith, c .before .before .rows-from .ensures, made .lists .long),
-      c .before .before .before .before .before .pre .1,
-    )
+reached-states-requires c κs = (rows-in (c .before .before .before .before .before .pre .0 .prepared) _ (c .before .before .rows-from .ensures), c .before .before .before .before .before .pre .1)
 
 returns : tie.Need-returns
 returns c = search needs

@@ -17,6 +17,9 @@ abbrev μ-loop : tie.MeasureT-loop
 loop-holds : tie.Need-loop-holds Inv-loop μ-loop
 loop-holds c = (omega arith, refl, λ i h. absurd (omega arith))
 
+cast-offsets : tie.Need-cast-offsets Inv-loop μ-loop
+cast-offsets c = omega (arith, c .before .before .before .pre .0 .procedures≤)
+
 offset-entry-requires : tie.Need-offset-entry-requires Inv-loop μ-loop
 offset-entry-requires c κs =
     let pre = c .before .before .before .pre in
@@ -54,6 +57,7 @@ offsets-of-spec =
     Inv-loop
     μ-loop
     loop-holds
+    cast-offsets
     offset-entry-requires
     mul-offsets
     array-write-offsets

@@ -1,109 +1,68 @@
--- Invariant: the mask shows the facts that the first i listed nodes call on the side. Measure: the nodes left.
-use mathlib.Core.Path.{_≡_, ap, sym, subst, _∙_}
-use mathlib.Core.List.{List}
-use Prim.Native.Nat.{ℕ, _+_, _-_, _≤_}
+-- A prepared contract has a list of nodes for each symbol.
+use mathlib.Core.Path.{_∙_}
 use native.Mathlib.Omega.{arith}
-use Rattle.model.specs.Tables.{Contract, contract, Node}
-use Rattle.kind_words.specs.Kind.{listed, listLength}
-use Rattle.masks.specs.Calls.{CallFits, Shown, withCall, shown-none, shown-more, call-fits}
+use borrow.Author.Needs.{needs}
+use Rattle.masks.specs.Calls.{calls-fit}
 use Rattle.masks.proofs.facts_seen.Statement.{statement}
 use Rattle.masks.proofs.facts_seen.Tie as tie
 
-abbrev Inv-loop : tie.InvT-loop
-Inv-loop symbols input-states output-states counts input-rows input-marks output-table output-marks nodes rules offsets lists symbol on-right s count mask₀ i₀ mask i =
-    (count ≡ listLength lists (symbol .0)) × (i ≤ count) × Shown output-states counts nodes (listed lists (symbol .0)) on-right i mask
+sub-facts-called : tie.Need-sub-facts-called
+sub-facts-called c = search needs
 
-abbrev μ-loop : tie.MeasureT-loop
-μ-loop symbols input-states output-states counts input-rows input-marks output-table output-marks nodes rules offsets lists symbol on-right s count mask₀ i₀ mask i =
-    count - i
+part-facts-called-start : tie.Need-part-facts-called-start
+part-facts-called-start c = search needs
 
-place-requires : tie.Need-place-requires Inv-loop μ-loop
-place-requires c κs = tt
+part-facts-called-end : tie.Need-part-facts-called-end
+part-facts-called-end c = search needs
 
-add-place : tie.Need-add-place Inv-loop μ-loop
-add-place c = omega (arith, c .place .ensures, c .before .before .before .before .before .before .before .before .before .pre .1)
+mul-facts-called : tie.Need-mul-facts-called
+mul-facts-called c = search needs
 
-mul-place : tie.Need-mul-place Inv-loop μ-loop
-mul-place c = omega (arith, c .place .ensures, c .before .before .before .before .before .before .before .before .before .pre .1)
+sub-facts-called-2 : tie.Need-sub-facts-called-2
+sub-facts-called-2 c = search needs
 
-shared-slice-read-place : tie.Need-shared-slice-read-place Inv-loop μ-loop
-shared-slice-read-place c = omega (arith, c .before .place .ensures, c .before .before .before .before .before .before .before .before .before .before .pre .1, c .before .before .before .before .before .before .before .before .before .before .pre .0 .lists .long)
+part-facts-called-start-2 : tie.Need-part-facts-called-start-2
+part-facts-called-start-2 c = search needs
 
-place-requires-2 : tie.Need-place-requires-2 Inv-loop μ-loop
-place-requires-2 c κs = tt
+part-facts-called-end-2 : tie.Need-part-facts-called-end-2
+part-facts-called-end-2 c = search needs
 
-no-facts-requires : tie.Need-no-facts-requires Inv-loop μ-loop
-no-facts-requires c κs = tt
+mul-list-of : tie.Need-mul-list-of
+mul-list-of c = search needs
 
-loop-holds : tie.Need-loop-holds Inv-loop μ-loop
-loop-holds c =
-    let args = c .before .before .before .before .before .before .before .before .before .before .before .before .args in
-    (c .before .place2 .ensures ∙ ap (λ (s : ℕ). listLength (args .lists .now) s) (c .before .before .before .place .ensures), omega arith, rw (c .no-facts .ensures) (shown-none _ _ _ _ _))
+sub-list-of : tie.Need-sub-list-of
+sub-list-of c = search needs
 
-listed-node-requires : tie.Need-listed-node-requires Inv-loop μ-loop
-listed-node-requires c κs =
-    let args = c .before .before .before .before .before .before .before .before .before .before .before .before .before .before .args in
-    let loop = c .before .loop in
-    let placed = c .before .before .before .before .before .before .before .before .before .before .before .before .before .before .pre .0 in
-    let s : ℕ = args .symbol .0 in
-    let isNode = placed .lists .list s (c .before .before .before .before .before .before .before .before .before .before .before .before .before .before .pre .1) .isNode (loop .i) (omega arith) in
-    (omega (arith, c .before .before .before .before .before .before .before .before .before .before .before .before .before .before .pre .1, placed .lists .long), omega (arith, placed .lists .inside s (c .before .before .before .before .before .before .before .before .before .before .before .before .before .before .pre .1)), isNode)
+part-list-of-start : tie.Need-part-list-of-start
+part-list-of-start c = search needs
 
-put-call-requires : tie.Need-put-call-requires Inv-loop μ-loop
-put-call-requires c κs =
-    let args = c .before .before .before .before .before .before .before .before .before .before .before .before .before .before .before .before .args in
-    let loop = c .before .before .before .loop in
-    let placed = c .before .before .before .before .before .before .before .before .before .before .before .before .before .before .before .before .pre .0 in
-    let s : ℕ = args .symbol .0 in
-    let isNode = placed .lists .list s (c .before .before .before .before .before .before .before .before .before .before .before .before .before .before .before .before .pre .1) .isNode (loop .i) (omega arith) in
-    let C : Contract =
-    contract (args .symbols) (args .input-states) (args .output-states) (args .counts .now) (args .input-rows .now) (args .input-marks .now)
-    (args .output-table .now) (args .output-marks .now) (args .nodes .now) (args .rules .now) in
-    subst (λ (n : Node). CallFits (args .output-states) (args .counts .now) (args .offsets .now) n) (sym (c .before .listed-node .ensures))
-    (call-fits C (placed .established) (args .offsets .now) (placed .places) (listed (args .lists .now) s (loop .i)) isNode)
+part-list-of-end : tie.Need-part-list-of-end
+part-list-of-end c = search needs
 
-add-i : tie.Need-add-i Inv-loop μ-loop
-add-i c = omega arith
+list-of-requires : tie.Need-list-of-requires
+list-of-requires c κs = (c .before .before .before .before .before .before .before .pre .1, omega (arith, c .before .before .before .before .before .before .before .pre .0 .prepared .lists .long), c .before .before .before .before .before .before .before .pre .0 .prepared .lists .inside (c .before .before .before .before .before .before .before .args .symbol .0) (c .before .before .before .before .before .before .before .pre .1))
 
-loop-less : tie.Need-loop-less Inv-loop μ-loop
-loop-less c = omega arith
+facts-called-requires : tie.Need-facts-called-requires
+facts-called-requires c κs = rw (c .list-of .ensures) (calls-fit (c .before .before .before .before .before .before .before .before .pre .0 .prepared) (c .before .before .before .before .before .before .before .before .args .symbol .0) (c .before .before .before .before .before .before .before .before .pre .1))
 
-loop-again : tie.Need-loop-again Inv-loop μ-loop
-loop-again c =
-    let args = c .before .before .before .before .before .before .before .before .before .before .before .before .before .before .before .before .before .args in
-    let loop = c .before .before .before .before .loop in
-    let placed = c .before .before .before .before .before .before .before .before .before .before .before .before .before .before .before .before .before .pre .0 in
-    let s : ℕ = args .symbol .0 in
-    let isNode = placed .lists .list s (c .before .before .before .before .before .before .before .before .before .before .before .before .before .before .before .before .before .pre .1) .isNode (loop .i) (omega arith) in
-    let C : Contract =
-    contract (args .symbols) (args .input-states) (args .output-states) (args .counts .now) (args .input-rows .now) (args .input-marks .now)
-    (args .output-table .now) (args .output-marks .now) (args .nodes .now) (args .rules .now) in
-    let list : ℕ → ℕ = listed (args .lists .now) s in
-    let put = c .put-call .ensures ∙ ap (λ (n : Node). withCall (args .output-states) (args .counts .now) (args .offsets .now) (args .on-right) n (loop .mask)) (c .before .before .listed-node .ensures) in
-    let more = shown-more C (placed .established) (args .offsets .now) (placed .places) list (args .on-right) (loop .i) (loop .mask) isNode (loop .inv .2) in
-    (loop .inv .0, omega arith, subst (λ (m : List ℕ). Shown (args .output-states) (args .counts .now) (args .nodes .now) list (args .on-right) (loop .i + 1) m) (sym put) more)
-
-returns : tie.Need-returns Inv-loop μ-loop
-returns c =
-    let e : c .before .loop .i ≡ listLength (c .before .before .before .before .before .before .before .before .before .before .before .before .before .before .args .lists .now) (c .before .before .before .before .before .before .before .before .before .before .before .before .before .before .args .symbol .0) = omega arith in
-    rw e at (c .before .loop .inv .2)
+returns : tie.Need-returns
+returns c = c .facts-called .ensures ∙ rw (c .before .list-of .ensures)
 
 pub facts-seen-spec : {M : Type 1} → statement M
 facts-seen-spec =
     tie.close
     (tie.spec
-    Inv-loop
-    μ-loop
-    place-requires
-    add-place
-    mul-place
-    shared-slice-read-place
-    place-requires-2
-    no-facts-requires
-    loop-holds
-    listed-node-requires
-    put-call-requires
-    add-i
-    loop-less
-    loop-again
+    sub-facts-called
+    part-facts-called-start
+    part-facts-called-end
+    mul-facts-called
+    sub-facts-called-2
+    part-facts-called-start-2
+    part-facts-called-end-2
+    mul-list-of
+    sub-list-of
+    part-list-of-start
+    part-list-of-end
+    list-of-requires
+    facts-called-requires
     returns)

@@ -3,12 +3,13 @@ use mathlib.Core.Path.{_≡_, ap, sym, _∙_}
 use Prim.Native.Nat.{ℕ, _+_, _*_, _-_, _^_}
 use native.Mathlib.Nat.{pow-suc}
 use native.Mathlib.Omega.{arith}
-use Rattle.masks.specs.Calls.{ones-double, ones-room, square-small, width-between}
+use Rattle.lanes.proofs.Room.{square-small}
+use Rattle.masks.specs.Calls.{ones-double, ones-room, width-between}
 use Rattle.masks.proofs.ones_for.Statement.{statement}
 use Rattle.masks.proofs.ones_for.Tie as tie
 
 assignments-requires : tie.Need-assignments-requires
-assignments-requires c κs = (c .pre .2, square-small (c .args .output-states) (c .pre .1))
+assignments-requires c κs = (c .pre .2, omega (arith, square-small (c .args .output-states) (c .pre .1)))
 
 mul-facts : tie.Need-mul-facts
 mul-facts c =

@@ -1,118 +1,80 @@
--- By the definition: five words put one after the other, which keeps the length.
-use mathlib.Core.Path.{refl}
+-- Invariant: the first i words of the mask are put, for every symbol whose words start there. Measure: the words left.
+use mathlib.Core.Path.{_≡_, refl, _∙_}
+use Prim.Native.Nat.{ℕ, _*_, _-_, _≤_}
 use native.Mathlib.Omega.{arith}
-use lib.ListN.{length-set}
-use Rattle.masks.specs.Seen.{stored}
-use borrow.Author.Needs.{needs}
+use lib.ListN.{length, length-set}
+use Rattle.masks.specs.Seen.{storedTo, stored-none, stored-more}
 use Rattle.masks.proofs.store_mask.Statement.{statement}
 use Rattle.masks.proofs.store_mask.Tie as tie
 
-element-copy-out-masks : tie.Need-element-copy-out-masks
-element-copy-out-masks c = search needs
+abbrev Inv-loop : tie.InvT-loop
+Inv-loop masks₀ mask start i₀ masks i =
+    (i ≤ 5) × (length masks ≡ length masks₀) × ((s : ℕ) → start ≡ 5 * s → masks ≡ storedTo masks₀ s mask i)
 
-mul-masks : tie.Need-mul-masks
-mul-masks c = search needs
+abbrev μ-loop : tie.MeasureT-loop
+μ-loop masks₀ mask start i₀ masks i = 5 - i
 
-mul-masks-2 : tie.Need-mul-masks-2
-mul-masks-2 c = search needs
+place-requires : tie.Need-place-requires Inv-loop μ-loop
+place-requires c κs = tt
 
-slice-write-masks : tie.Need-slice-write-masks
-slice-write-masks c = search needs
+mul-start : tie.Need-mul-start Inv-loop μ-loop
+mul-start c = omega (arith, c .place .ensures)
 
-element-copy-out-masks-2 : tie.Need-element-copy-out-masks-2
-element-copy-out-masks-2 c = search needs
+loop-holds : tie.Need-loop-holds Inv-loop μ-loop
+loop-holds c = (omega arith, refl, λ s e. stored-none _ s _)
 
-mul-masks-3 : tie.Need-mul-masks-3
-mul-masks-3 c = search needs
+mul-masks : tie.Need-mul-masks Inv-loop μ-loop
+mul-masks c = omega arith
 
-add-masks : tie.Need-add-masks
-add-masks c = search needs
+element-copy-out-masks : tie.Need-element-copy-out-masks Inv-loop μ-loop
+element-copy-out-masks c = omega arith
 
-mul-masks-4 : tie.Need-mul-masks-4
-mul-masks-4 c = search needs
+add-masks : tie.Need-add-masks Inv-loop μ-loop
+add-masks c = omega (arith, c .before .before .before .place .ensures, c .before .before .before .before .before .pre)
 
-slice-write-masks-2 : tie.Need-slice-write-masks-2
-slice-write-masks-2 c = simp length-set (omega arith)
+mul-masks-2 : tie.Need-mul-masks-2 Inv-loop μ-loop
+mul-masks-2 c = omega (arith, c .before .before .before .place .ensures, c .before .before .before .before .before .pre, c .before .before .loop .inv .1)
 
-element-copy-out-masks-3 : tie.Need-element-copy-out-masks-3
-element-copy-out-masks-3 c = search needs
+slice-write-masks : tie.Need-slice-write-masks Inv-loop μ-loop
+slice-write-masks c = omega (arith, c .before .before .before .place .ensures, c .before .before .before .before .before .pre, c .before .before .loop .inv .1)
 
-mul-masks-5 : tie.Need-mul-masks-5
-mul-masks-5 c = search needs
+add-i : tie.Need-add-i Inv-loop μ-loop
+add-i c = omega arith
 
-add-masks-2 : tie.Need-add-masks-2
-add-masks-2 c = search needs
+loop-less : tie.Need-loop-less Inv-loop μ-loop
+loop-less c = omega arith
 
-mul-masks-6 : tie.Need-mul-masks-6
-mul-masks-6 c = search needs
+loop-again : tie.Need-loop-again Inv-loop μ-loop
+loop-again c = (
+  omega arith,
+  length-set (c .before .before .loop .masks) _ _ ∙ c .before .before .loop .inv .1,
+  λ s e. stored-more _ s _ (c .before .before .loop .masks) (c .before .before .loop .i) _ (c .before .before .loop .inv .2 s e) (omega arith),
+)
 
-slice-write-masks-3 : tie.Need-slice-write-masks-3
-slice-write-masks-3 c = simp length-set (omega arith)
+same-length : tie.Need-same-length Inv-loop μ-loop
+same-length c = c .before .loop .inv .1
 
-element-copy-out-masks-4 : tie.Need-element-copy-out-masks-4
-element-copy-out-masks-4 c = search needs
-
-mul-masks-7 : tie.Need-mul-masks-7
-mul-masks-7 c = search needs
-
-add-masks-3 : tie.Need-add-masks-3
-add-masks-3 c = search needs
-
-mul-masks-8 : tie.Need-mul-masks-8
-mul-masks-8 c = search needs
-
-slice-write-masks-4 : tie.Need-slice-write-masks-4
-slice-write-masks-4 c = simp length-set (omega arith)
-
-element-copy-out-masks-5 : tie.Need-element-copy-out-masks-5
-element-copy-out-masks-5 c = search needs
-
-mul-masks-9 : tie.Need-mul-masks-9
-mul-masks-9 c = search needs
-
-add-masks-4 : tie.Need-add-masks-4
-add-masks-4 c = search needs
-
-mul-masks-10 : tie.Need-mul-masks-10
-mul-masks-10 c = search needs
-
-slice-write-masks-5 : tie.Need-slice-write-masks-5
-slice-write-masks-5 c = simp length-set (omega arith)
-
-same-length : tie.Need-same-length
-same-length c = search needs
-
-returns : tie.Need-returns
-unfolding stored
-returns c = refl
+returns : tie.Need-returns Inv-loop μ-loop
+returns c =
+    let e : c .before .loop .i ≡ 5 = omega arith in
+    rw e at (c .before .loop .inv .2 (c .before .before .before .before .args .symbol .0) (omega (arith, c .before .before .place .ensures)))
 
 pub store-mask-spec : {M : Type 1} → statement M
 store-mask-spec =
     tie.close
     (tie.spec
-    element-copy-out-masks
+    Inv-loop
+    μ-loop
+    place-requires
+    mul-start
+    loop-holds
     mul-masks
+    element-copy-out-masks
+    add-masks
     mul-masks-2
     slice-write-masks
-    element-copy-out-masks-2
-    mul-masks-3
-    add-masks
-    mul-masks-4
-    slice-write-masks-2
-    element-copy-out-masks-3
-    mul-masks-5
-    add-masks-2
-    mul-masks-6
-    slice-write-masks-3
-    element-copy-out-masks-4
-    mul-masks-7
-    add-masks-3
-    mul-masks-8
-    slice-write-masks-4
-    element-copy-out-masks-5
-    mul-masks-9
-    add-masks-4
-    mul-masks-10
-    slice-write-masks-5
+    add-i
+    loop-less
+    loop-again
     same-length
     returns)

@@ -2,38 +2,24 @@
 use mathlib.Core.Path.{_≡_, _∙_}
 use Prim.Native.Nat.{_-_, _<_}
 use native.Mathlib.Omega.{arith}
-use lib.ListN.{getD}
-use lib.Pow.{pow-pos}
 use borrow.Author.Needs.{needs}
 use borrow.Author.Tests.{eq-eqb, ne-eqb}
 use Rattle.lanes.proofs.Room.{put-fits, ones-less, small-prod, square-small}
 use Rattle.node_words.proofs.output_word.Statement.{statement}
 use Rattle.node_words.proofs.output_word.Tie as tie
 
-shared-slice-read-wide : tie.Need-shared-slice-read-wide
-shared-slice-read-wide c = search needs
+output-state-at-requires : tie.Need-output-state-at-requires
+output-state-at-requires c κs = search needs
 
-wide-requires : tie.Need-wide-requires
-wide-requires c κs = search needs
-
-mul-up : tie.Need-mul-up
-mul-up c =
-    let args = c .before .before .before .before .before .before .before .args in
-    let pre = c .before .before .before .before .before .before .before .pre in
-    let z : c .before .wide .result ≡ getD (args .table .now) 0 0 = c .before .wide .ensures in
-    let h : c .before .wide .result < args .layout .states = rw z (pre .0 .entry 0) in
-    omega (arith, put-fits (args .layout .states) (args .layout .width) 0 (c .before .wide .result) (pre .0 .layout .laid .sized) (pow-pos (args .layout .width)) h)
-
-up-requires : tie.Need-up-requires
-up-requires c κs =
-    let args = c .before .before .before .before .before .before .before .args in
-    let pre = c .before .before .before .before .before .before .before .pre in
-    let z : c .before .wide .result ≡ getD (args .table .now) 0 0 = c .before .wide .ensures in
-    let h : c .before .wide .result < args .layout .states = rw z (pre .0 .entry 0) in
-    put-fits (args .layout .states) (args .layout .width) (args .layout .ones) (c .before .wide .result) (pre .0 .layout .laid .sized) (ones-less (args .layout .width) (args .layout .ones) (pre .0 .layout .laid .lane)) h
+at-state-requires : tie.Need-at-state-requires
+at-state-requires c κs =
+    let layout = c .before .before .before .before .before .args .layout in
+    let fits = c .before .before .before .before .before .pre .0 .layout .laid in
+    let h : c .output-state-at .result .0 < layout .states = rw (c .output-state-at .ensures) (c .before .before .before .before .before .pre .0 .entry 0) in
+    put-fits (layout .states) (layout .width) (layout .ones) (c .output-state-at .result .0) (fits .sized) (ones-less (layout .width) (layout .ones) (fits .lane)) h
 
 returns : tie.Need-returns
-returns c = rw (eq-eqb (c .before .before .before .before .before .before .before .before .args .symbol .0) 0 (c .before .before .before .before .if1 .taken)) (c .up .ensures ∙ rw (c .before .before .wide .ensures))
+returns c = rw (eq-eqb (c .before .before .before .before .before .before .args .symbol .0) 0 (c .before .before .if1 .taken)) (c .at-state .ensures ∙ rw (c .before .output-state-at .ensures))
 
 place-requires : tie.Need-place-requires
 place-requires c κs = search needs
@@ -92,10 +78,8 @@ pub output-word-spec : {M : Type 1} → statement M
 output-word-spec =
     tie.close
     (tie.spec
-    shared-slice-read-wide
-    wide-requires
-    mul-up
-    up-requires
+    output-state-at-requires
+    at-state-requires
     returns
     place-requires
     sub-start

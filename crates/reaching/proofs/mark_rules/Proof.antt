@@ -1,93 +1,57 @@
--- Invariant: the nodes of the first r rules are marked, where they are rules for the symbol, and r is the next rule of the chain; so for every symbol whose first
--- rule is the one from which the loop started. Measure: the rules left.
+-- Invariant: a walk along the symbol's chain has come to rule r, and the nodes of the symbol's rules before it are marked. Measure:
+-- the rules left.
 use mathlib.Core.Path.{_≡_, refl, subst, _∙_}
-use Prim.Native.Nat.{ℕ, _+_, _-_, _/_, _≤_, _<_}
+use Prim.Native.Nat.{ℕ, _-_, _/_, _<_}
 use native.Mathlib.Omega.{arith}
-use lib.ListN.{length, getD}
+use lib.ListN.{length}
 use Rattle.model.specs.Tables
-use Rattle.kind_words.specs.Chains.{NextFrom}
+use Rattle.kind_words.specs.Chains.{Walk, walk-starts, walk-goes, walk-less, walk-ends}
 use Rattle.reaching.specs.Marks.{RulesMarked, no-rules-marked, rule-marked}
 use Rattle.reaching.proofs.mark_rules.Statement.{statement}
 use Rattle.reaching.proofs.mark_rules.Tie as tie
 
 abbrev Inv-loop : tie.InvT-loop
 Inv-loop rules lists marks₀ n r₀ marks r =
-    (n ≡ length rules / 3) × (r ≤ n) × (length marks ≡ length marks₀)
-    × ((s : ℕ) → NextFrom (λ i. Tables.ruleAt rules i .symbol) (Tables.ruleCount rules) s 0 r₀
-    → (r < n → Tables.ruleAt rules r .symbol ≡ s) × RulesMarked rules s r marks)
+    (n ≡ length rules / 3) × (length marks ≡ length marks₀)
+    × Walk (λ i. Tables.ruleAt rules i .symbol) (Tables.ruleCount rules) (λ s. RulesMarked rules s r marks) r₀ r
 
 abbrev μ-loop : tie.MeasureT-loop
 μ-loop rules lists marks₀ n r₀ marks r = n - r
 
-place-requires : tie.Need-place-requires Inv-loop μ-loop
-place-requires c κs = tt
-
-add-place : tie.Need-add-place Inv-loop μ-loop
-add-place c = omega (arith, c .place .ensures, c .before .before .before .before .pre .3)
-
-mul-place : tie.Need-mul-place Inv-loop μ-loop
-mul-place c = omega (arith, c .place .ensures, c .before .before .before .before .pre .3)
-
-shared-slice-read-place : tie.Need-shared-slice-read-place Inv-loop μ-loop
-shared-slice-read-place c = omega (arith, c .before .place .ensures, c .before .before .before .before .before .pre .2, c .before .before .before .before .before .pre .3)
-
-place-requires-2 : tie.Need-place-requires-2 Inv-loop μ-loop
-place-requires-2 c κs = tt
+first-rule-requires : tie.Need-first-rule-requires Inv-loop μ-loop
+first-rule-requires c κs = (c .before .before .before .pre .3, omega (arith, c .before .before .before .pre .2))
 
 loop-holds : tie.Need-loop-holds Inv-loop μ-loop
 loop-holds c =
-    let s : ℕ = c .before .before .before .before .before .before .args .symbol .0 in
-    let is = c .before .before .before .before .before .before .pre .1 .first s (c .before .before .before .before .before .before .pre .3) in
-    let e : c .place2 .result ≡ getD (c .before .before .before .before .before .before .args .lists .now) (32 + s) 0 = c .place2 .ensures ∙ rw (c .before .before .place .ensures) in
-    (refl, omega (arith, is .most), refl, λ t at. (at .passed, no-rules-marked _ t (c .place2 .result) _ at))
+    (refl, refl, walk-starts _ _ (c .before .before .before .before .pre .1) (c .before .before .before .before .args .symbol .0) _ (c .before .before .before .before .pre .3) (c .first-rule .ensures) (λ t at. no-rules-marked _ t (c .first-rule .result) _ at))
 
 mark-rule-requires : tie.Need-mark-rule-requires Inv-loop μ-loop
-mark-rule-requires c κs = (omega arith, omega (arith, c .before .before .before .before .before .before .before .before .before .pre .0 (c .before .before .loop .r) (omega arith), c .before .before .loop .inv .2))
+mark-rule-requires c κs = (omega arith, omega (arith, c .before .before .before .before .before .before .before .pre .0 (c .before .before .loop .r) (omega arith), c .before .before .loop .inv .1))
 
-add-place-2 : tie.Need-add-place-2 Inv-loop μ-loop
-add-place-2 c = omega (arith, c .before .before .before .before .before .before .before .before .before .before .before .before .pre .2)
-
-mul-place-2 : tie.Need-mul-place-2 Inv-loop μ-loop
-mul-place-2 c = omega (arith, c .before .before .before .before .before .before .before .before .before .before .before .before .pre .2)
-
-shared-slice-read-place-2 : tie.Need-shared-slice-read-place-2 Inv-loop μ-loop
-shared-slice-read-place-2 c = omega (arith, c .before .before .before .before .before .before .before .before .before .before .before .before .before .pre .2)
-
-place-requires-3 : tie.Need-place-requires-3 Inv-loop μ-loop
-place-requires-3 c κs = tt
+rule-after-requires : tie.Need-rule-after-requires Inv-loop μ-loop
+rule-after-requires c κs = omega (arith, c .before .before .before .before .before .before .before .before .before .before .pre .2)
 
 loop-less : tie.Need-loop-less Inv-loop μ-loop
-loop-less c =
-    let is = c .before .before .before .before .before .before .before .before .before .before .before .before .before .before .pre .1 .next (c .before .before .before .before .before .before .before .loop .r) (omega arith) (omega arith) in
-    omega (arith, c .place3 .ensures, is .after)
+loop-less c = let l : c .before .before .before .before .before .before .loop .r < c .rule-after .result = walk-less _ _ (c .before .before .before .before .before .before .before .before .before .before .before .pre .1) _ _ (omega arith) (c .rule-after .ensures) in omega arith
 
 loop-again : tie.Need-loop-again Inv-loop μ-loop
 loop-again c =
-    let args = c .before .before .before .before .before .before .before .before .before .before .before .before .before .before .args in
-    let loop = c .before .before .before .before .before .before .before .loop in
-    let is = c .before .before .before .before .before .before .before .before .before .before .before .before .before .before .pre .1 .next (loop .r) (omega arith) (omega arith) in
-    let e : c .place3 .result ≡ getD (args .lists .now) (64 + loop .r) 0 = c .place3 .ensures in
-    let next : NextFrom (λ i. Tables.ruleAt (args .rules .now) i .symbol) (Tables.ruleCount (args .rules .now)) (Tables.ruleAt (args .rules .now) (loop .r) .symbol) (loop .r + 1) (c .place3 .result) = rw e is in (
-      loop .inv .0,
-      omega (arith, next .most),
-      c .before .before .before .before .mark-rule .kept .1 .0 ∙ loop .inv .2,
-      λ s at.
-          let own : Tables.ruleAt (args .rules .now) (loop .r) .symbol ≡ s = loop .inv .3 s at .0 (omega arith) in
-          let next′ : NextFrom (λ i. Tables.ruleAt (args .rules .now) i .symbol) (Tables.ruleCount (args .rules .now)) s (loop .r + 1) (c .place3 .result) = rw own at next in
-          (λ l. next′ .passed (omega arith), rule-marked _ s (loop .r) (c .place3 .result) (loop .marks) _ (loop .inv .3 s at .1) (omega (arith, c .before .before .before .before .before .before .before .before .before .before .before .before .before .before .pre .0 (loop .r) (omega arith), loop .inv .2)) (c .before .before .before .before .mark-rule .ensures) next′),
+    let small = c .before .before .before .before .before .before .before .before .before .before .before .pre .0 (c .before .before .before .before .before .before .loop .r) (omega arith) in (
+      c .before .before .before .before .before .before .loop .inv .0,
+      c .before .before .before .mark-rule .kept .1 .0 ∙ c .before .before .before .before .before .before .loop .inv .1,
+      walk-goes _ _ (c .before .before .before .before .before .before .before .before .before .before .before .pre .1) _ (c .before .before .before .before .before .before .loop .inv .2) (omega arith) (c .rule-after .ensures)
+          (λ s own so-far next. rule-marked _ s (c .before .before .before .before .before .before .loop .r) _ (c .before .before .before .before .before .before .loop .marks) _ so-far (omega (arith, small, c .before .before .before .before .before .before .loop .inv .1)) (c .before .before .before .mark-rule .ensures) next),
     )
 
 same-length : tie.Need-same-length Inv-loop μ-loop
-same-length c = c .before .loop .inv .2
+same-length c = c .before .loop .inv .1
 
 returns : tie.Need-returns Inv-loop μ-loop
 returns c =
-    let args = c .before .before .before .before .before .before .before .before .args in
-    let loop = c .before .loop in
-    let e : loop .r ≡ length (args .rules .now) / 3 = omega arith in
-    let first : c .before .before .place2 .result ≡ getD (args .lists .now) (32 + args .symbol .0) 0 = c .before .before .place2 .ensures ∙ rw (c .before .before .before .before .place .ensures) in
-    subst (λ (x : ℕ). RulesMarked (args .rules .now) (args .symbol .0) x (loop .marks)) e
-    (loop .inv .3 (args .symbol .0) (rw first (c .before .before .before .before .before .before .before .before .pre .1 .first (args .symbol .0) (c .before .before .before .before .before .before .before .before .pre .3))) .1)
+    let rules = c .before .before .before .before .before .before .args .rules .now in
+    let s = c .before .before .before .before .before .before .args .symbol .0 in
+    let e : c .before .loop .r ≡ length rules / 3 = omega arith in
+    subst (λ (x : ℕ). RulesMarked rules s x (c .before .loop .marks)) e (walk-ends _ _ (c .before .before .before .before .before .before .pre .1) (c .before .loop .inv .2) s (c .before .before .before .before .before .before .pre .3) (c .before .before .first-rule .ensures))
 
 pub mark-rules-spec : {M : Type 1} → statement M
 mark-rules-spec =
@@ -95,17 +59,10 @@ mark-rules-spec =
     (tie.spec
     Inv-loop
     μ-loop
-    place-requires
-    add-place
-    mul-place
-    shared-slice-read-place
-    place-requires-2
+    first-rule-requires
     loop-holds
     mark-rule-requires
-    add-place-2
-    mul-place-2
-    shared-slice-read-place-2
-    place-requires-3
+    rule-after-requires
     loop-less
     loop-again
     same-length
