@@ -15,12 +15,13 @@ pub fn kind_at(words: &[u64], j: usize) -> [u64; 6]
     requires { ⌜ 5 * j + 5 ≤ length (now words) ⌝ }
     ensures { λ r. ⌜ r ≡ paddedKind (now (words .entry)) j ⌝ }
 {
+    let at = 5 * j;
     [
-        words[5 * j],
-        words[5 * j + 1],
-        words[5 * j + 2],
-        words[5 * j + 3],
-        words[5 * j + 4],
+        words[at],
+        words[at + 1],
+        words[at + 2],
+        words[at + 3],
+        words[at + 4],
         0,
     ]
 }
@@ -33,7 +34,7 @@ pub fn same_words(a: &[u64; 6], b: &[u64; 6]) -> bool
 }
 
 // Whether row j has this kind.
-pub fn same_kind(words: &[u64], j: usize, kind: &[u64; 6]) -> bool
+fn same_kind(words: &[u64], j: usize, kind: &[u64; 6]) -> bool
     requires { ⌜ 5 * j + 5 ≤ length (now words) ⌝ }
     ensures { λ r. ⌜ r ≡ sameKind (now (words .entry)) j (now (kind .entry)) ⌝ }
 {
@@ -42,7 +43,7 @@ pub fn same_kind(words: &[u64], j: usize, kind: &[u64; 6]) -> bool
 }
 
 // The first of the first `count` rows that has this kind, or `count`.
-pub fn find_kind(words: &[u64], count: usize, kind: &[u64; 6]) -> usize
+fn find_kind(words: &[u64], count: usize, kind: &[u64; 6]) -> usize
     requires { ⌜ 5 * count ≤ length (now words) ⌝ }
     ensures { λ r. ⌜ r ≡ kindPlace (now (words .entry)) count (now (kind .entry)) ⌝ }
 {
@@ -86,7 +87,7 @@ fn wide(entry: u16) -> usize
 
 // Whether the kind is listed. A slot names the row to compare first; a wrong one costs a search, after which it names the row
 // that the kind has or will have.
-pub fn listed(words: &[u64], count: usize, kind: &[u64; 6], slots: &mut [u16; 1024]) -> bool
+fn listed(words: &[u64], count: usize, kind: &[u64; 6], slots: &mut [u16; 1024]) -> bool
     requires { ⌜ (5 * count ≤ length (now words)) × (count ≤ 512) ⌝ }
     ensures { λ r. ⌜ r ≡ kindListed (now (words .entry)) count (now (kind .entry)) ⌝ }
 {
@@ -100,25 +101,27 @@ pub fn listed(words: &[u64], count: usize, kind: &[u64; 6], slots: &mut [u16; 10
 }
 
 // Row j of the rows.
-pub fn store_row(rows: &mut [u16], j: usize, symbol: Symbol, left: u16, right: u16)
-    requires { ⌜ 3 * j + 3 ≤ length (now rows) ⌝ }
+fn store_row(rows: &mut [u16], j: usize, symbol: Symbol, left: usize, right: usize)
+    requires { ⌜ (3 * j + 3 ≤ length (now rows)) × (left < 65536) × (right < 65536) ⌝ }
     ensures { λ _. ⌜ now (rows .exit) ≡ withRow (now (rows .entry)) j (symbol .0) left right ⌝ }
 {
-    rows[3 * j] = symbol.0;
-    rows[3 * j + 1] = left;
-    rows[3 * j + 2] = right;
+    let at = 3 * j;
+    rows[at] = symbol.0;
+    rows[at + 1] = left as u16;
+    rows[at + 2] = right as u16;
 }
 
 // Row j of the words.
-pub fn store_kind(words: &mut [u64], j: usize, kind: &[u64; 6])
+fn store_kind(words: &mut [u64], j: usize, kind: &[u64; 6])
     requires { ⌜ 5 * j + 5 ≤ length (now words) ⌝ }
     ensures { λ _. ⌜ now (words .exit) ≡ withKind (now (words .entry)) j (now (kind .entry)) ⌝ }
 {
-    words[5 * j] = kind[0];
-    words[5 * j + 1] = kind[1];
-    words[5 * j + 2] = kind[2];
-    words[5 * j + 3] = kind[3];
-    words[5 * j + 4] = kind[4];
+    let at = 5 * j;
+    words[at] = kind[0];
+    words[at + 1] = kind[1];
+    words[at + 2] = kind[2];
+    words[at + 3] = kind[3];
+    words[at + 4] = kind[4];
 }
 
 // A kind with its row is offered to the list of the first `count` rows.
@@ -127,14 +130,14 @@ pub fn offer(
     limit: usize,
     count: usize,
     symbol: Symbol,
-    left: u16,
-    right: u16,
+    left: usize,
+    right: usize,
     kind: &[u64; 6],
     slots: &mut [u16; 1024],
     rows: &mut [u16],
     words: &mut [u64],
 ) -> Progress
-    requires { ⌜ Room limit count (now rows) (now words) ⌝ }
+    requires { ⌜ Room limit count (now rows) (now words) × (left < 65536) × (right < 65536) ⌝ }
     ensures { λ r. ⌜ Becomes (offering verdicts limit count (symbol .0) left right (now (kind .entry)) (now (rows .entry)) (now (words .entry))) r (now (rows .exit)) (now (words .exit)) ⌝ }
 {
     if listed(words, count, kind, slots) {

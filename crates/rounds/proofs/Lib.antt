@@ -1,2 +1,2 @@
--- Lemmas of the proofs: room in the buffers where the loops stand, and what a visit comes to.
-pub mod Visits
+-- Lemmas of the proofs: between two rounds, and from symbol to symbol.
+pub mod Laps

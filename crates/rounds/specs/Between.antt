@@ -21,8 +21,8 @@ use Rattle.classes.specs.Masks.{AgreeUnder, agree-self, class-agree, maskIn, Co
 use Rattle.kind_lists.specs.Held.{kindIn, kind-held}
 use Rattle.kind_lists.specs.Outcomes.{Unbroken, Passed}
 use Rattle.row_marks.specs.Marks.{agrees-under, MarksOf, MarkedFrom}
-use Rattle.rounds.specs.Steps.{LeftSame, RightSame, Marked, Standing, At, listAt}
-use Rattle.rounds.specs.declared.Round.{Round}
+use Rattle.round_pairs.specs.Steps.{LeftSame, RightSame, Marked, Standing, At, listAt}
+use Rattle.round_pairs.specs.declared.Round.{Round}
 
 module _ (C : Contract) where
   -- the buffers hold the rows of some rounds, `stood` of them; those below `before` stood in the round before

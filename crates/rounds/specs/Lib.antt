@@ -1,5 +1,4 @@
--- The rounds: where the loops of a round stand and what each step does, how rounds begin and end, and how they follow each other.
-pub mod Steps
+-- How rounds begin and end, what stands between them, and what all of them come to.
 pub mod Between
 pub mod Starting
-pub mod Stretches
+pub mod Lists

@@ -1,190 +1,23 @@
 // The rounds, which list the kinds of a prepared contract. Round 0 lists the kind of the empty forest. Each later one goes through
-// the symbols, the left rows and the right rows, and offers the kinds of the pairs that could be new.
+// the symbols, until one adds nothing.
 ghost use mathlib.Core.Path.{_≡_};
-ghost use Prim.Native.Nat.{_+_, _≤_, _<_};
-ghost use lib.Dec.{ltb};
-ghost use Rattle.foundation.specs.Tests.{choose};
+ghost use Prim.Native.Nat.{_≤_};
 ghost use Rattle.classes.specs.Masks.{Covered};
 ghost use Rattle.prepared.specs.Parts.{contractIn, Ready};
 ghost use Rattle.kind_lists.specs.Listing.{Room};
+ghost use Rattle.round_pairs.specs.Stretches.{Starts, Comes};
 ghost use Rattle.rounds.specs.Between.{Between};
-ghost use Rattle.rounds.specs.Stretches.{Stands, Comes, Starts, Begun, Lists};
+ghost use Rattle.rounds.specs.Lists.{Begun, Lists};
 use kind_lists::Progress;
-use kind_lists::listing::kind_at;
 use kind_lists::listing::offer;
 use kinds::empty_of;
-use kinds::kind_of;
 use prepared::Prepared;
+use round_pairs::Place;
+use round_pairs::Round;
+use round_pairs::left_rows;
 use row_marks::mark_rows;
-use row_marks::next_marked;
 use row_marks::symbol_of;
 use tables::Symbol;
-
-// A round over the rows below `stood`, under a limit; pairs of rows below `before` were visited.
-pub struct Round {
-    pub limit: usize,
-    pub before: usize,
-    pub stood: usize,
-}
-
-// A place in a round: before the symbol over a left and a right row, where so many rows are listed.
-pub struct Place {
-    pub symbol: Symbol,
-    pub left: usize,
-    pub right: usize,
-    pub count: usize,
-}
-
-// A row's number as it stands in the rows.
-fn row_number(row: usize) -> u16
-    requires { ⌜ row < 512 ⌝ }
-    ensures { λ r. ⌜ r ≡ row ⌝ }
-{
-    row as u16
-}
-
-// The kind of the symbol over a left row and a right row is offered to the list.
-fn visit_pair(
-    prepared: Prepared,
-    table: &[u16],
-    round: Round,
-    place: Place,
-    lefts: &[u16; 512],
-    rights: &[u16; 512],
-    slots: &mut [u16; 1024],
-    rows: &mut [u16],
-    words: &mut [u64],
-    room: &mut [u64; 256],
-) -> Progress
-    requires { ⌜ Ready prepared (now table) × Stands prepared (now table) round (now lefts) (now rights) place (now rows) (now words) × (place .symbol .0 < prepared .symbols) × (place .left < round .stood) × (place .right < round .stood) ⌝ }
-    ensures { λ r. ⌜ Comes prepared (now (table .entry)) round (now (lefts .entry)) (now (rights .entry)) (place .symbol .0) (place .left) (place .right + 1) (now (rows .exit)) (now (words .exit)) r ⌝ }
-{
-    let symbol = place.symbol;
-    let verdicts = prepared.verdicts;
-    let left_kind = kind_at(words, place.left);
-    let right_kind = kind_at(words, place.right);
-    let kind = kind_of(prepared, table, symbol, &left_kind, &right_kind, room);
-    let left = row_number(place.left);
-    let right = row_number(place.right);
-    offer(
-        verdicts,
-        round.limit,
-        place.count,
-        symbol,
-        left,
-        right,
-        &kind,
-        slots,
-        rows,
-        words,
-    )
-}
-
-// The right rows from the place on, those that are the first of their class.
-fn right_rows(
-    prepared: Prepared,
-    table: &[u16],
-    round: Round,
-    place: Place,
-    lefts: &[u16; 512],
-    rights: &[u16; 512],
-    slots: &mut [u16; 1024],
-    rows: &mut [u16],
-    words: &mut [u64],
-    room: &mut [u64; 256],
-) -> Progress
-    requires { ⌜ Ready prepared (now table) × Stands prepared (now table) round (now lefts) (now rights) place (now rows) (now words) × (place .symbol .0 < prepared .symbols) × (place .left < round .stood) × (place .right ≤ round .stood) ⌝ }
-    ensures { λ r. ⌜ Comes prepared (now (table .entry)) round (now (lefts .entry)) (now (rights .entry)) (place .symbol .0) (place .left + 1) 0 (now (rows .exit)) (now (words .exit)) r ⌝ }
-{
-    let symbol = place.symbol;
-    let stood = round.stood;
-    let mut total: usize = place.count;
-    let mut right: usize = next_marked(rights, symbol, place.right, stood);
-    while right < stood {
-        let here = Place {
-            symbol: symbol,
-            left: place.left,
-            right: right,
-            count: total,
-        };
-        let step = visit_pair(
-            prepared,
-            table,
-            round,
-            here,
-            lefts,
-            rights,
-            slots,
-            rows,
-            words,
-            room,
-        );
-        let Progress::Going(next) = step else {
-            return step;
-        };
-        total = next;
-        right = next_marked(rights, symbol, right + 1, stood);
-    }
-    Progress::Going(total)
-}
-
-// The first right row that could make a new pair with this left row.
-fn first_right(left: usize, before: usize) -> usize
-    ensures { λ r. ⌜ r ≡ choose (ltb left before) before 0 ⌝ }
-{
-    if left < before {
-        return before;
-    }
-    0
-}
-
-// The left rows from the place on, those that are the first of their class.
-fn left_rows(
-    prepared: Prepared,
-    table: &[u16],
-    round: Round,
-    place: Place,
-    lefts: &[u16; 512],
-    rights: &[u16; 512],
-    slots: &mut [u16; 1024],
-    rows: &mut [u16],
-    words: &mut [u64],
-    room: &mut [u64; 256],
-) -> Progress
-    requires { ⌜ Ready prepared (now table) × Stands prepared (now table) round (now lefts) (now rights) place (now rows) (now words) × (place .symbol .0 < prepared .symbols) × (place .left ≤ round .stood) × (place .right ≡ 0) ⌝ }
-    ensures { λ r. ⌜ Comes prepared (now (table .entry)) round (now (lefts .entry)) (now (rights .entry)) (place .symbol .0 + 1) 0 0 (now (rows .exit)) (now (words .exit)) r ⌝ }
-{
-    let symbol = place.symbol;
-    let stood = round.stood;
-    let mut total: usize = place.count;
-    let mut left: usize = next_marked(lefts, symbol, place.left, stood);
-    while left < stood {
-        let here = Place {
-            symbol: symbol,
-            left: left,
-            right: first_right(left, round.before),
-            count: total,
-        };
-        let step = right_rows(
-            prepared,
-            table,
-            round,
-            here,
-            lefts,
-            rights,
-            slots,
-            rows,
-            words,
-            room,
-        );
-        let Progress::Going(next) = step else {
-            return step;
-        };
-        total = next;
-        left = next_marked(lefts, symbol, left + 1, stood);
-    }
-    Progress::Going(total)
-}
 
 // One round: all symbols.
 fn one_round(

@@ -5,9 +5,10 @@ use Prim.Native.Nat.{_-_, _≤_, _<_}
 use native.Mathlib.Omega.{arith}
 use Rattle.prepared.specs.Parts.{contractIn}
 use Rattle.kind_lists.proofs.Stops.{ends, goes}
-use Rattle.rounds.specs.Steps.{Marked, none-marked-yet}
+use Rattle.round_pairs.specs.Steps.{Marked, none-marked-yet}
 use Rattle.rounds.specs.Between.{Between, round-starts, round-ends, passed}
-use Rattle.rounds.proofs.Visits.{between-room, between-some, at-lengths}
+use Rattle.round_pairs.proofs.Visits.{at-lengths}
+use Rattle.rounds.proofs.Laps.{between-room, between-some}
 use Rattle.rounds.proofs.all_rounds.Statement.{statement}
 use Rattle.rounds.proofs.all_rounds.Tie as tie
 

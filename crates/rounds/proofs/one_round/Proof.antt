@@ -4,8 +4,9 @@ use Prim.Native.Nat.{_-_, _≤_, _<_}
 use native.Mathlib.Omega.{arith}
 use Rattle.prepared.specs.Parts.{contractIn}
 use Rattle.kind_lists.proofs.Stops.{ends, goes}
-use Rattle.rounds.specs.Steps.{At}
-use Rattle.rounds.proofs.Visits.{at-room, at-lengths, at-symbol, first-below}
+use Rattle.round_pairs.specs.Steps.{At}
+use Rattle.round_pairs.proofs.Visits.{at-room, at-lengths}
+use Rattle.rounds.proofs.Laps.{at-symbol, first-below}
 use Rattle.rounds.proofs.one_round.Statement.{statement}
 use Rattle.rounds.proofs.one_round.Tie as tie
 

@@ -29,7 +29,7 @@ use Rattle.kind_lists.specs.Outcomes.{Unbroken, Outcome, outcome-map}
 use Rattle.kind_lists.specs.Offers.{offered}
 use Rattle.kind_lists.specs.declared.Progress.{Progress}
 use Rattle.row_marks.specs.Marks.{NextMarked}
-use Rattle.rounds.specs.declared.Round.{Round}
+use Rattle.round_pairs.specs.declared.Round.{Round}
 
 module _ (A : TreeAutomaton) (decides : Decides A) where
   lefts-after : (rows : List (Listed A)) (s i d : ℕ) → 1 ≤ s → d + i ≤ length rows

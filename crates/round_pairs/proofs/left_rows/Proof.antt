@@ -4,12 +4,12 @@ use Prim.Native.Nat.{_-_, _≤_, _<_}
 use native.Mathlib.Omega.{arith}
 use Rattle.prepared.specs.Parts.{contractIn}
 use Rattle.kind_lists.proofs.Stops.{ends, goes}
-use Rattle.rounds.specs.Steps.{At, pass-lefts, begin-right, next-symbol}
-use Rattle.rounds.proofs.Visits.{at-room, at-stood, at-lengths}
+use Rattle.round_pairs.specs.Steps.{At, pass-lefts, begin-right, next-symbol}
+use Rattle.round_pairs.proofs.Visits.{at-room, at-stood, at-lengths}
 use borrow.Author.Needs.{needs}
 use borrow.Author.Needs.{needs}
-use Rattle.rounds.proofs.left_rows.Statement.{statement}
-use Rattle.rounds.proofs.left_rows.Tie as tie
+use Rattle.round_pairs.proofs.left_rows.Statement.{statement}
+use Rattle.round_pairs.proofs.left_rows.Tie as tie
 
 abbrev Inv-loop : tie.InvT-loop
 Inv-loop prepared table round lefts rights slots₀ rows₀ words₀ room₀ symbol stood total₀ left₀ slots rows words room total left =

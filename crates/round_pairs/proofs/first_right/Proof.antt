@@ -1,7 +1,7 @@
 -- By the two arms of the test.
 use borrow.Author.Tests.{lt-ltb, le-ltb}
-use Rattle.rounds.proofs.first_right.Statement.{statement}
-use Rattle.rounds.proofs.first_right.Tie as tie
+use Rattle.round_pairs.proofs.first_right.Statement.{statement}
+use Rattle.round_pairs.proofs.first_right.Tie as tie
 
 returns : tie.Need-returns
 returns c = rw (lt-ltb (c .before .args .left) (c .before .args .before) (c .if1 .taken))

@@ -1,0 +1,3 @@
+-- Where the loops of a round stand and what each step of them does.
+pub mod Steps
+pub mod Stretches

@@ -1,0 +1,23 @@
+-- Where the loops of a round stand, for a prepared contract, and what a stretch of them comes to, as the code says it.
+use Prim.Native.Nat.{ℕ}
+use mathlib.Core.List.{List}
+use Rattle.prepared.specs.declared.Prepared.{Prepared}
+use Rattle.prepared.specs.Parts.{contractIn}
+use Rattle.kind_lists.specs.Outcomes.{Outcome}
+use Rattle.kind_lists.specs.declared.Progress.{Progress}
+use Rattle.round_pairs.specs.declared.Place.{Place}
+use Rattle.round_pairs.specs.declared.Round.{Round}
+use Rattle.round_pairs.specs.Steps.{At}
+
+module _ (p : Prepared) (table : List ℕ) (r : Round) (lefts rights : List ℕ) where
+  -- the loops stand at a place
+  abbrev pub Stands : Place → (rows words : List ℕ) → Type 0
+  Stands w rows words = At (contractIn p table) r lefts rights (w .symbol .0) (w .left) (w .right) (w .count) rows words
+
+  -- .. before the first pair
+  abbrev pub Starts : (rows words : List ℕ) → Type 0
+  Starts rows words = At (contractIn p table) r lefts rights 1 0 0 (r .stood) rows words
+
+  -- they come to symbol s over rows i and j, or the answer is known
+  abbrev pub Comes : (s i j : ℕ) (rows words : List ℕ) → Progress → Type 0
+  Comes s i j rows words = Outcome (contractIn p table) (λ n. At (contractIn p table) r lefts rights s i j n rows words) (r .limit) rows words

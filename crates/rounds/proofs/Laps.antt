@@ -1,0 +1,38 @@
+-- Between two rounds there is room in the buffers, and some row stands; within a round the loops go from symbol to symbol.
+use mathlib.Core.Path.{_≡_, refl, subst, _∙_}
+use mathlib.Core.Bool.{Bool, true, false, _&&_}
+use mathlib.Core.List.{List}
+use Prim.Native.Nat.{ℕ, _<_}
+use native.Mathlib.Omega.{arith}
+use borrow.Author.Tests.{ltb-true}
+use lib.Dec.{ltb}
+use Rattle.model.specs.Tables.{Contract}
+use Rattle.model.specs.Rounds.{kindAutomaton, rounds}
+use Rattle.model.proofs.Rounds.Growth.{rounds-not-empty}
+use Rattle.kind_lists.specs.Listing.{Room}
+use Rattle.round_pairs.specs.Steps.{At}
+use Rattle.round_pairs.specs.declared.Round.{Round}
+use Rattle.round_pairs.proofs.Visits.{room-of}
+use Rattle.rounds.specs.Between.{Between}
+
+pub between-room : {C : Contract} {limit before stood : ℕ} {rows words : List ℕ} → Between C limit before stood rows words
+    → Room limit stood rows words
+between-room {C} b = room-of (rounds (kindAutomaton C) (b .height)) (b .list)
+
+pub between-some : {C : Contract} {limit before stood : ℕ} {rows words : List ℕ} → Between C limit before stood rows words
+    → 0 < stood
+between-some {C} b = omega (arith, b .standing .counted, rounds-not-empty (kindAutomaton C) (b .height))
+
+-- the loops stand before the same symbol under another name
+pub at-symbol : {C : Contract} {r : Round} {lefts rights : List ℕ} {s i j n : ℕ} {rows words : List ℕ} (k : ℕ) → s ≡ k
+    → At C r lefts rights s i j n rows words → At C r lefts rights k i j n rows words
+at-symbol {C} {r} {lefts} {rights} {i = i} {j = j} {n = n} {rows = rows} {words = words} k e at =
+    subst (λ (x : ℕ). At C r lefts rights x i j n rows words) e at
+
+-- a number below another, where that is the first of two tests
+pub first-below : (a b : ℕ) (u : Bool) → (ltb a b && u) ≡ true → a < b
+first-below a b u e = go (ltb a b) refl e
+  where
+    go : (t : Bool) → ltb a b ≡ t → (t && u) ≡ true → a < b
+    go true q e = ltb-true a b q
+    go false q e = ltb-true a b (q ∙ e)

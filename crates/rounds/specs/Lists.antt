@@ -1,0 +1,17 @@
+-- What the first round and all rounds of a prepared contract come to, as the code says it.
+use Prim.Native.Nat.{ℕ}
+use mathlib.Core.List.{List}
+use Rattle.prepared.specs.declared.Prepared.{Prepared}
+use Rattle.prepared.specs.Parts.{contractIn}
+use Rattle.kind_lists.specs.Outcomes.{Outcome, Passed}
+use Rattle.kind_lists.specs.declared.Progress.{Progress}
+use Rattle.rounds.specs.Between.{Between}
+
+module _ (p : Prepared) (table : List ℕ) (limit : ℕ) (rows words : List ℕ) where
+  -- round 0 is listed, or the answer is known
+  abbrev pub Begun : Progress → Type 0
+  Begun = Outcome (contractIn p table) (λ n. Between (contractIn p table) limit 0 n rows words) limit rows words
+
+  -- the whole list, or the answer is known
+  abbrev pub Lists : Progress → Type 0
+  Lists = Outcome (contractIn p table) (λ n. Passed (contractIn p table) limit n rows words) limit rows words
