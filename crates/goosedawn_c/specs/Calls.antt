@@ -1,5 +1,5 @@
--- What a caller in C or Rust may conclude from a check: the reply and the closing buffers are those of a call, of which
--- `checking` says what they mean (`call-meaning`, `demand-3-of-calls`).
+-- What a caller in C or Rust may conclude from a check or a judgement: the reply and the closing buffers are those of a call, of
+-- which `checking` says what they mean (`call-meaning`, `demand-3-of-calls`), and `judging` (`judged-call`).
 use mathlib.Core.Path.{_≡_, refl, ap, _∙_}
 use mathlib.Core.List.{List}
 use Prim.Native.Nat.{ℕ}
@@ -8,9 +8,11 @@ use Rattle.foundation.specs.Tests.{choose}
 use Rattle.model.specs.Tables.{Contract}
 use Rattle.model.specs.Answers.{Answer, refusal, admitted, judged, pass, tree, ran, written}
 use Rattle.model.specs.Checking.{checking}
+use Rattle.model.specs.Judging.{judging}
 use Rattle.checking.specs.Calls.{Call}
+use Rattle.judging.specs.Calls as judging-calls
 use Rattle.goosedawn_c.specs.declared.Reply.{Reply}
-use Rattle.goosedawn_c.specs.Replies.{replyOf, Checks}
+use Rattle.goosedawn_c.specs.Replies.{replyOf, Checks, Judges}
 
 -- the answer of a reply
 abbrev pub answerOf : Reply → Answer
@@ -43,4 +45,16 @@ module _ (C : Contract) (L : ℕ) (rows words : List ℕ) (r : Reply) (closingRo
         closingRows = closingRows;
         closingWords = closingWords;
         gives = record { answered = ap answerOf (promise .0) ∙ answer-of-reply _; rowsClosed = promise .1; wordsClosed = promise .2 };
+      }
+
+module _ (C : Contract) (numbers buffer : List ℕ) (r : Reply) (closing : List ℕ) where
+  -- the call that the promise of `goosedawn_judge` speaks of
+  abbrev pub judgingCallOf : Judges r closing (judging C numbers buffer) → judging-calls.Call C
+  judgingCallOf promise =
+      record {
+        numbers = numbers;
+        buffer = buffer;
+        answer = answerOf r;
+        closing = closing;
+        comes = record { answers = ap answerOf (promise .0) ∙ answer-of-reply _; closes = promise .1 };
       }

@@ -1,2 +1,3 @@
--- What judging comes to, step by step.
+-- What judging comes to, step by step; and what a caller may conclude from calls.
 pub mod Steps
+pub mod Calls

@@ -13,7 +13,6 @@ use Rattle.model.specs.Tables.{Contract}
 use Rattle.model.specs.Answers.{Answer, judged, tree, pass, refusal}
 use Rattle.model.specs.Kinds.{emptyKind, kindOf, breaks}
 use Rattle.model.specs.Rounds.{kindAutomaton, ListedKind, kindAt, rounds}
-use Rattle.model.specs.Judging.{judging}
 use Rattle.model.specs.Checking.{greatestLimit, Checked, standing, checking}
 use Rattle.model.specs.Outputs.{Output}
 use Rattle.model.specs.Running.{mostCalls, running}
@@ -42,14 +41,12 @@ pub data JudgedOrRefused (answer : Answer) : Type 0 where
   is-judged : (result : ℕ) → answer ≡ judged result → JudgedOrRefused answer
   is-refused : (number place : ℕ) → answer ≡ refusal number place → JudgedOrRefused answer
 
--- what the answer and the closing words of judging say of the numbers handed in; of a refusal see `OperationRefusals`
-pub record JudgingMeans (C : Contract) (numbers buffer : List ℕ) : Type 0 where
-  pub judgedOrRefused : JudgedOrRefused (judging C numbers buffer .answer)
-  pub judgedExactly : (result : ℕ) → (judging C numbers buffer .answer ≡ judged result) ↔ JudgedMeans C numbers buffer result
-  pub kindWritten : (result : ℕ) → judging C numbers buffer .answer ≡ judged result
-      → (t : Tree) → DocumentOf (C .transformation .symbols) numbers t → judging C numbers buffer .words ≡ kindOf C t
-  pub refuses : Refuses (judgingReasons C numbers buffer) (λ number place. judging C numbers buffer .answer ≡ refusal number place) (buffer ∷ [])
-      (judging C numbers buffer .words ∷ [])
+-- what an answer of judging and the closing words say of the numbers handed in; of a refusal see `OperationRefusals`
+pub record JudgingMeans (C : Contract) (numbers buffer : List ℕ) (answer : Answer) (words : List ℕ) : Type 0 where
+  pub judgedOrRefused : JudgedOrRefused answer
+  pub judgedExactly : (result : ℕ) → (answer ≡ judged result) ↔ JudgedMeans C numbers buffer result
+  pub kindWritten : (result : ℕ) → answer ≡ judged result → (t : Tree) → DocumentOf (C .transformation .symbols) numbers t → words ≡ kindOf C t
+  pub refuses : Refuses (judgingReasons C numbers buffer) (λ number place. answer ≡ refusal number place) (buffer ∷ []) (words ∷ [])
 
 -- lists, read with a default that no statement depends on: no entry stands twice; an entry stands there
 pub record AllDiffer {A : Type 0} (default : A) (entries : List A) : Type 0 where

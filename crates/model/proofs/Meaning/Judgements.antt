@@ -97,7 +97,7 @@ module _ (C : Contract) (numbers buffer : List ℕ) where
       ∙ then-passed _ _ (refuse-if-passed _ 9 0 (rw (m .fiveWords) refl))
       ∙ reading (m .isAdmitted) .whole .1 (m .document, m .isDocument)
 
-  pub judging-means : JudgingMeans C numbers buffer
+  pub judging-means : JudgingMeans C numbers buffer (judging C numbers buffer .answer) (judging C numbers buffer .words)
   judging-means =
       record {
         judgedOrRefused = one-of (judgingVerdict C numbers buffer) refl;
