@@ -68,6 +68,13 @@ pub struct Ended {
     pub end: End,
 }
 
+// What is said of the buffer and of the document before the work.
+pub enum Verdict {
+    Fine,
+    Buffer,
+    Document(DocumentFault),
+}
+
 fn wide(x: u16) -> usize
     ensures { λ r. ⌜ r ≡ x ⌝ }
 {
@@ -275,12 +282,19 @@ fn start_lent<'a, 'b, 'c>(plan: &'a Plan, rows: &'b mut [u16], tally: &'c mut Ta
     next.end
 }
 
+// The tally of a run that has done nothing.
+fn fresh_tally() -> Tally
+    ensures { λ r. ⌜ r ≡ record { used = 0; calls = 0 } ⌝ }
+{
+    Tally { used: 0, calls: 0 }
+}
+
 // The same with a tally of its own, lent to the work and read when it is back.
 fn start_anew<'a, 'b>(plan: &'a Plan, rows: &'b mut [u16]) -> Ended
     requires { ⌜ CallableIn (now plan) 0 0 × (length (now rows) ≤ 12288) ⌝ }
     ensures { λ r. ⌜ StartsIn (now (plan .entry)) (now (rows .entry)) (record { used = 0; calls = 0 }) r (now (rows .exit)) ⌝ }
 {
-    let mut tally = Tally { used: 0, calls: 0 };
+    let mut tally = fresh_tally();
     let end = start_lent(plan, rows, &mut tally);
     Ended { tally, end }
 }
@@ -356,13 +370,6 @@ fn run_document(
     }
     let mut ends = [0u16; 1023];
     run_with(counts, nodes, rules, numbers, &mut ends, rows)
-}
-
-// What is said of the buffer and of the document before the work.
-pub enum Verdict {
-    Fine,
-    Buffer,
-    Document(DocumentFault),
 }
 
 // Refusal 9: the row buffer is no whole number of rows, or too many.
