@@ -1,32 +1,41 @@
 -- Admission, the tests of the buffer and of the document, and what is known of a contract and a document that pass.
-use mathlib.Core.Path.{_≡_, refl, ap, sym}
-use mathlib.Core.Bool.{true, false, not}
+use mathlib.Core.Path.{_≡_, refl, ap, sym, _∙_}
+use mathlib.Core.Bool.{not}
 use mathlib.Core.List.{List, [], _∷_, _++_}
+use mathlib.Core.Logic.{inl, inr}
 use Prim.Native.Nat.{ℕ, zero, suc, _%_, _<_, _≤_}
 use native.Mathlib.Nat.{not-suc-le-zero, le-of-suc-le-suc}
 use native.Mathlib.Omega.{arith}
 use lib.Dec.{eqb, ltb}
 use lib.ListN.{length, getD}
 use borrow.Author.Tests.{ltb-false}
+use types.Run.{OneOf}
+use denote.Enum.Declared.{tagOf}
 use Rattle.foundation.specs.TestLaws.{or-second}
 use Rattle.model.specs.Trees.{Tree, empty, node, Over, preorder}
 use Rattle.model.specs.Tables.{Transformation, Contract}
+use Rattle.model.specs.Answers as model
 use Rattle.model.specs.Answers.{fine, Answer, admitted, refusal, refuseIf, _then_, given}
 use Rattle.model.specs.Documents.{document, documentTree}
 use Rattle.model.specs.Rows.{rowCount}
 use Rattle.model.specs.Running.{Ran, rowsWrong, run, closing, runningVerdict, running}
 use Rattle.model.specs.Admission.{admission, admit}
 use Rattle.answers.specs.declared.DocumentFault.{DocumentFault}
+use Rattle.answers.specs.declared.DocumentFault.the-variants as fault
 use Rattle.answers.specs.declared.ContractFault.{ContractFault}
 use Rattle.answers.specs.Numbers.{contractRefusal, documentRefusal}
-use Rattle.model.proofs.Laws.Documents.{Document, some-number}
+use Rattle.model.proofs.Laws.Documents.{Document, document-fine, some-number}
 use Rattle.model.proofs.Laws.Established.{Between, Established}
-use Rattle.model.proofs.Laws.Answers.{given-stopped}
+use Rattle.model.proofs.Laws.Answers.{refuse-if-fine, then-fine, given-stopped}
 use Rattle.model.proofs.Laws.Admitted.{established, admit-fine}
 use Rattle.admission.proofs.Answered.{refused-as}
-use Rattle.reading.specs.Answers.{faultVerdict, fault-given}
+use Rattle.reading.specs.Answers.{fault-given}
+use Rattle.running.specs.declared.Verdict.{Verdict}
+use Rattle.running.specs.declared.Verdict.the-variants as verdict
+use Rattle.running.specs.Work.{verdictOf}
 use Rattle.running.specs.Places.{ReadDocument}
-use Rattle.running.specs.Contracts.{Admitted, EndsWith, afterAdmission}
+use Rattle.running.specs.Contracts.{Admitted, EndsWith, beforeWork, afterAdmission}
+use Rattle.running.proofs.Verdict.{the-type}
 
 -- every number of a list is below S
 abbrev Each : ℕ → List ℕ → Type 0
@@ -49,7 +58,7 @@ each-number S h empty o = (h, tt)
 each-number S h (node s l r) o = (o .1, each-append S (preorder l) (preorder r) (each-number S h l (o .2)) (each-number S h r (o .3)))
 
 module _ (S : ℕ) (numbers : List ℕ) (known : Document S numbers) where
-  pub read-document : 1 ≤ S → S ≤ 16 → ReadDocument numbers
+  read-document : 1 ≤ S → S ≤ 16 → ReadDocument numbers
   read-document low high =
       record {
         some = rw (known .numbers) at (some-number (documentTree numbers));
@@ -61,30 +70,45 @@ module _ (S : ℕ) (numbers : List ℕ) (known : Document S numbers) where
         readable = known .readable;
       }
 
--- a buffer that passes is small
-pub rows-few : (n : ℕ) → rowsWrong n ≡ false → n ≤ 12288
-rows-few n e = ltb-false 12288 n (or-second (not (eqb (n % 3) 0)) (ltb 12288 n) e)
+-- a verdict that is not fine comes first
+pub refused-first : (one : Verdict) (next : model.Verdict) → OneOf (1 ∷ 2 ∷ []) (tagOf the-type one) → verdictOf one ≡ (verdictOf one then next)
+unfolding _then_
+refused-first verdict.Fine next (inl e) = absurd (omega arith)
+refused-first verdict.Fine next (inr e) = absurd (omega arith)
+refused-first verdict.Buffer next h = refl
+refused-first (verdict.Document (fault.Length numbers)) next h = refl
+refused-first (verdict.Document (fault.Number place)) next h = refl
 
-module _ (T : Transformation) (numbers buffer : List ℕ) where
-  pub buffer-refused : rowsWrong (length buffer) ≡ true → EndsWith (afterAdmission T numbers buffer) (refusal 9 0) buffer
-  unfolding afterAdmission refuseIf _then_ given
-  buffer-refused wrong = rw (afterAdmission, wrong) (record { answered = refl; left = refl })
+-- what follows from the verdict before the work
+module _ (T : Transformation) (numbers buffer : List ℕ) (v : Verdict) (said : verdictOf v ≡ beforeWork (T .symbols) numbers (length buffer)) where
+  pub buffer-refused : v ≡ verdict.Buffer → EndsWith (afterAdmission T numbers buffer) (refusal 9 0) buffer
+  unfolding afterAdmission given
+  buffer-refused e = rw (afterAdmission, ← said, e) (record { answered = refl; left = refl })
 
-  module _ (right : rowsWrong (length buffer) ≡ false) where
-    pub document-refused : (fault : DocumentFault) → faultVerdict fault ≡ document (T .symbols) numbers
-        → EndsWith (afterAdmission T numbers buffer) (documentRefusal fault) buffer
-    unfolding afterAdmission refuseIf _then_
-    document-refused fault e =
-        let ended : afterAdmission T numbers buffer ≡ record { answer = documentRefusal fault; rows = buffer } =
-        rw (afterAdmission, right, ← e)
-        (fault-given fault (λ (a : Answer). record { answer = a; rows = buffer }) (closing (length buffer) (run T (rowCount buffer) (documentTree numbers)))) in
-        record { answered = sym (ap (λ (r : Ran). r .answer) ended); left = sym (ap (λ (r : Ran). r .rows) ended) }
+  pub document-refused : (fault : DocumentFault) → v ≡ verdict.Document fault → EndsWith (afterAdmission T numbers buffer) (documentRefusal fault) buffer
+  unfolding afterAdmission
+  document-refused fault e =
+      let ended : afterAdmission T numbers buffer ≡ record { answer = documentRefusal fault; rows = buffer } =
+      rw (afterAdmission, ← said, e)
+      (fault-given fault (λ (a : Answer). record { answer = a; rows = buffer }) (closing (length buffer) (run T (rowCount buffer) (documentTree numbers)))) in
+      record { answered = sym (ap (λ (r : Ran). r .answer) ended); left = sym (ap (λ (r : Ran). r .rows) ended) }
 
-    pub document-run : fine ≡ document (T .symbols) numbers → {answer : Answer} {o : List ℕ}
+  -- where nothing is refused, the buffer is small and the numbers are a document
+  module _ (passed : v ≡ verdict.Fine) where
+    both-fine : (refuseIf (rowsWrong (length buffer)) 9 0 ≡ fine) × (document (T .symbols) numbers ≡ fine)
+    both-fine = then-fine _ _ (sym said ∙ ap verdictOf passed)
+
+    pub rows-few : length buffer ≤ 12288
+    rows-few = ltb-false 12288 (length buffer) (or-second (not (eqb (length buffer % 3) 0)) (ltb 12288 (length buffer)) (refuse-if-fine _ 9 0 (both-fine .0)))
+
+    pub read : 1 ≤ T .symbols → T .symbols ≤ 16 → ReadDocument numbers
+    read low high = read-document (T .symbols) numbers (document-fine (T .symbols) numbers (both-fine .1)) low high
+
+    pub document-run : {answer : Answer} {o : List ℕ}
         → EndsWith (closing (length buffer) (run T (rowCount buffer) (documentTree numbers))) answer o
         → EndsWith (afterAdmission T numbers buffer) answer o
-    unfolding afterAdmission refuseIf _then_ given
-    document-run e ends = rw (afterAdmission, right, ← e) ends
+    unfolding afterAdmission given
+    document-run ends = rw (afterAdmission, ← said, passed) ends
 
 -- The whole operation
 

@@ -12,7 +12,7 @@ use Rattle.model.specs.Rows.{rowCount}
 use Rattle.model.specs.Tables.{Transformation, Node, nodeAt, nodeCount, ruleAt, ruleCount}
 use Rattle.model.specs.Expressions.{Child, childOf, expression, holdsCall}
 use Rattle.model.specs.Facts.{onSide}
-use Rattle.model.specs.Answers.{Answer, refusal, refuseIf, _then_, given}
+use Rattle.model.specs.Answers.{Verdict, Answer, refusal, refuseIf, _then_, given}
 use Rattle.model.specs.Documents.{document, documentTree}
 use Rattle.model.specs.Running.{Work, Step, Runs, noRuns, Ran, rowsWrong, addRow, evaluate, runOn, run, closing}
 use Rattle.answers.specs.declared.RunningAnswer.{RunningAnswer}
@@ -149,9 +149,12 @@ abbrev pub Closes : (counts nodes rules numbers buffer : List ℕ) → RunningAn
 Closes counts nodes rules numbers buffer r closed =
     (S : ℕ) → EndsWith (closing (length buffer) (run (transformationOf counts nodes rules S) (rowCount buffer) (documentTree numbers))) (runningAnswer r) closed
 
--- what follows where a contract is admitted: "9, the row buffer's length is no multiple of three or above 12,288 (place 0);
--- 11; 12; these write nothing"
+-- what is said before the work: "9, the row buffer's length is no multiple of three or above 12,288 (place 0); 11; 12"
+abbrev pub beforeWork : ℕ → List ℕ → (lent : ℕ) → Verdict
+beforeWork S numbers lent = refuseIf (rowsWrong lent) 9 0 then document S numbers
+
+-- what follows where a contract is admitted; "these write nothing"
 unfoldable pub afterAdmission : Transformation → (numbers buffer : List ℕ) → Ran
 afterAdmission T numbers buffer =
-    given (refuseIf (rowsWrong (length buffer)) 9 0 then document (T .symbols) numbers) (λ number place. record { answer = refusal number place; rows = buffer })
+    given (beforeWork (T .symbols) numbers (length buffer)) (λ number place. record { answer = refusal number place; rows = buffer })
     (closing (length buffer) (run T (rowCount buffer) (documentTree numbers)))

@@ -5,6 +5,7 @@ use lib.Dec.{eqb}
 use lib.ListN.{getD, take}
 use Rattle.foundation.specs.Tests.{choose}
 use Rattle.model.specs.Tables.{Node, countOf}
+use Rattle.model.specs.Answers as model
 use Rattle.model.specs.Answers.{Answer, ran, refusal}
 use Rattle.model.specs.Running.{Work, Step, made, refused, mostCalls}
 use Rattle.plans.specs.Plans.{endsPlace}
@@ -14,6 +15,9 @@ use Rattle.running.specs.declared.Outcome.the-variants.{Made, NoRule, No
 use Rattle.running.specs.declared.End.{End}
 use Rattle.running.specs.declared.End.the-variants.{Root, NoRule as NoRuleEnd, NoRow as NoRowEnd, TooManyCalls as TooManyCallsEnd}
 use Rattle.running.specs.declared.Ended.{Ended}
+use Rattle.running.specs.declared.Verdict.{Verdict}
+use Rattle.running.specs.declared.Verdict.the-variants as verdict
+use Rattle.reading.specs.Answers.{faultVerdict}
 
 -- the work so far: the first rows of the buffer are the rows used
 abbrev pub workOf : Tally → List ℕ → Work
@@ -66,3 +70,9 @@ endAnswer free (Root root) tally = ran root (tally .used)
 endAnswer free (NoRuleEnd procedure) tally = refusal 13 (procedure .0)
 endAnswer free NoRowEnd tally = refusal 14 free
 endAnswer free TooManyCallsEnd tally = refusal 15 mostCalls
+
+-- what is said before the work
+abbrev pub verdictOf : Verdict → model.Verdict
+verdictOf verdict.Fine = model.fine
+verdictOf verdict.Buffer = model.refused 9 0
+verdictOf (verdict.Document fault) = faultVerdict fault

@@ -10,14 +10,17 @@ ghost use Rattle.foundation.specs.Lists.{zeroFilled};
 ghost use Rattle.answers.specs.Numbers.{runningAnswer};
 ghost use Rattle.model.specs.Rows.{rowCount};
 ghost use Rattle.model.specs.Tables.{contract};
-ghost use Rattle.model.specs.Running.{addRow, running};
+ghost use Rattle.model.specs.Answers.{refuseIf, _then_};
+ghost use Rattle.model.specs.Documents.{document};
+ghost use Rattle.model.specs.Running.{addRow, rowsWrong, running};
 ghost use Rattle.model.proofs.Laws.Established.{Between};
 ghost use Rattle.tables.specs.Tuples.{nodeOf};
-ghost use Rattle.running.specs.Work.{workOf, stepOf, endedOf, parameterRow, planOperands, planChild, numbersKept, endAnswer};
+ghost use Rattle.running.specs.Work.{workOf, stepOf, endedOf, parameterRow, planOperands, planChild, numbersKept, endAnswer, verdictOf};
 ghost use Rattle.running.specs.Places.{ReadDocument};
-ghost use Rattle.running.specs.Contracts.{transformationOf, EndsWith, afterAdmission, Admitted, Closes, EvaluableIn, ApplicableIn, CallableIn, EvaluatesIn, AppliesIn, CallsIn, StartsIn};
+ghost use Rattle.running.specs.Contracts.{transformationOf, EndsWith, beforeWork, afterAdmission, Admitted, Closes, EvaluableIn, ApplicableIn, CallableIn, EvaluatesIn, AppliesIn, CallsIn, StartsIn};
 use admission::admit;
 use answers::AdmissionAnswer;
+use answers::DocumentFault;
 use answers::RunningAnswer;
 use plans::Plan;
 use plans::count_of;
@@ -63,6 +66,13 @@ pub enum End {
 pub struct Ended {
     pub tally: Tally,
     pub end: End,
+}
+
+// What is said of the buffer and of the document before the work.
+pub enum Verdict {
+    Fine,
+    Buffer,
+    Document(DocumentFault),
 }
 
 fn wide(x: u16) -> usize
@@ -272,12 +282,19 @@ fn start_lent<'a, 'b, 'c>(plan: &'a Plan, rows: &'b mut [u16], tally: &'c mut Ta
     next.end
 }
 
+// The tally of a run that has done nothing.
+fn fresh_tally() -> Tally
+    ensures { λ r. ⌜ r ≡ record { used = 0; calls = 0 } ⌝ }
+{
+    Tally { used: 0, calls: 0 }
+}
+
 // The same with a tally of its own, lent to the work and read when it is back.
 fn start_anew<'a, 'b>(plan: &'a Plan, rows: &'b mut [u16]) -> Ended
     requires { ⌜ CallableIn (now plan) 0 0 × (length (now rows) ≤ 12288) ⌝ }
     ensures { λ r. ⌜ StartsIn (now (plan .entry)) (now (rows .entry)) (record { used = 0; calls = 0 }) r (now (rows .exit)) ⌝ }
 {
-    let mut tally = Tally { used: 0, calls: 0 };
+    let mut tally = fresh_tally();
     let end = start_lent(plan, rows, &mut tally);
     Ended { tally, end }
 }
@@ -355,8 +372,46 @@ fn run_document(
     run_with(counts, nodes, rules, numbers, &mut ends, rows)
 }
 
-// Runs an admitted transformation: the buffer is tested, then the document, and both are left as they are where they are
-// refused.
+// Refusal 9: the row buffer is no whole number of rows, or too many.
+fn buffer_verdict(lent: usize) -> Verdict
+    ensures { λ r. ⌜ verdictOf r ≡ refuseIf (rowsWrong lent) 9 0 ⌝ }
+{
+    if (lent % 3 != 0) | (12288 < lent) {
+        return Verdict::Buffer;
+    }
+    Verdict::Fine
+}
+
+// Refusals 11 and 12: the numbers are no document.
+fn document_verdict(symbols: usize, numbers: &[u16]) -> Verdict
+    ensures { λ r. ⌜ verdictOf r ≡ document symbols (now (numbers .entry)) ⌝ }
+{
+    match document(symbols, numbers) {
+        DocumentAnswer::Whole => Verdict::Fine,
+        DocumentAnswer::Refused(fault) => Verdict::Document(fault),
+    }
+}
+
+// The first refusal of two verdicts, if there is one.
+fn first_refusal(one: Verdict, next: Verdict) -> Verdict
+    ensures { λ r. ⌜ verdictOf r ≡ (verdictOf one then verdictOf next) ⌝ }
+{
+    let Verdict::Fine = one else {
+        return one;
+    };
+    next
+}
+
+// What is said before the work: the buffer's refusal comes before the document's.
+fn verdict_before(symbols: usize, numbers: &[u16], lent: usize) -> Verdict
+    ensures { λ r. ⌜ verdictOf r ≡ beforeWork symbols (now (numbers .entry)) lent ⌝ }
+{
+    let buffer = buffer_verdict(lent);
+    let text = document_verdict(symbols, numbers);
+    first_refusal(buffer, text)
+}
+
+// Runs an admitted transformation, where neither the buffer nor the document is refused; nothing is written where one is.
 fn run_admitted(
     symbols: usize,
     counts: &[u16],
@@ -369,14 +424,11 @@ fn run_admitted(
     requires { ⌜ Between 1 16 symbols ⌝ }
     ensures { λ r. ⌜ EndsWith (afterAdmission (transformationOf (now (counts .entry)) (now (nodes .entry)) (now (rules .entry)) symbols) (now (numbers .entry)) (now (rows .entry))) (runningAnswer r) (now (rows .exit)) ⌝ }
 {
-    if (rows.len() % 3 != 0) | (12288 < rows.len()) {
-        return RunningAnswer::Buffer;
+    match verdict_before(symbols, numbers, rows.len()) {
+        Verdict::Buffer => RunningAnswer::Buffer,
+        Verdict::Document(fault) => RunningAnswer::Document(fault),
+        Verdict::Fine => run_document(counts, nodes, rules, numbers, rows),
     }
-    let answer = document(symbols, numbers);
-    if let DocumentAnswer::Refused(fault) = answer {
-        return RunningAnswer::Document(fault);
-    }
-    run_document(counts, nodes, rules, numbers, rows)
 }
 
 // Runs a contract's transformation on a document: the answer, with the rows in the buffer.

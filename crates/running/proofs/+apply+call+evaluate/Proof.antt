@@ -177,7 +177,7 @@ call-returns : (t : ℕ) → call-lts.Need-returns (
 ) (call-at t) call.Post
 call-returns t c = λ asked.
     let s = c .before .before .before .before .args in
-    too-many asked (s .first) (s .second) (s .rows .now) (s .tally) (c .if1 .taken)
+    too-many asked (s .first) (s .second) (s .rows .now) (s .tally) (omega arith)
 
 call-returns-2 : (t : ℕ) → call-lts.Need-returns-2 (
   symbol-of-reads.Asked,
@@ -189,7 +189,7 @@ call-returns-2 : (t : ℕ) → call-lts.Need-returns-2 (
 ) (call-at t) call.Post
 call-returns-2 t c = λ asked.
     let s = c .before .before .before .before .before .args in
-    no-rule asked (c .before .before .before .symbol-of .result .0) (c .before .before .before .symbol-of .ensures) (c .before .before .side-of .result) (c .before .before .side-of .ensures) (s .first) (s .second) (s .rows .now) (s .tally) (c .before .if1 .left) (c .if2 .taken) (s .procedure) refl
+    no-rule asked (c .before .before .before .symbol-of .result .0) (c .before .before .before .symbol-of .ensures) (c .before .before .side-of .result) (c .before .before .side-of .ensures) (s .first) (s .second) (s .rows .now) (s .tally) (omega arith) (omega arith) (s .procedure) refl
 
 call-add-t13 : (t : ℕ) → call-lts.Need-add-t13 (
   symbol-of-reads.Asked,
