@@ -1,14 +1,15 @@
 -- Judging step by step: each refusal and the judgement, as the definition gives them.
-use mathlib.Core.Path.{_≡_, refl, ap, subst, sym, _∙_}
+use mathlib.Core.Path.{_≡_, refl, ap, ap₂, subst, sym, _∙_}
 use mathlib.Core.List.{List, [], _∷_, _++_}
-use mathlib.Core.Bool.{Bool, true, false}
+use mathlib.Core.Bool.{Bool}
 use Prim.Native.Nat.{ℕ}
 use native.Mathlib.Omega.{arith}
 use lib.ListN.{length, getD, take, set}
 use borrow.Author.Tests.{eq-eqb, ne-eqb}
+use Rattle.foundation.specs.Tests.{choose}
 use Rattle.model.specs.Tables.{Contract}
 use Rattle.model.specs.Trees.{Tree}
-use Rattle.model.specs.Kinds.{kindOf, ofInputType, breaks}
+use Rattle.model.specs.Kinds.{kindOf}
 use Rattle.model.specs.Documents.{document, documentTree}
 use Rattle.model.specs.Answers.{fine, refuseIf, _then_, Answer, judged, refusal, given}
 use Rattle.model.specs.Admission.{admission, admit}
@@ -53,29 +54,25 @@ pub record Comes (answer : Answer) (words : List ℕ) (to : Judged) : Type 0 whe
 abbrev pub judgedTree : Contract → Tree → Judged
 judgedTree C t = record { answer = judged (judgement C (kindOf C t)); words = kindOf C t }
 
--- what the two tests of a tree's kind tell; the kind is held with a sixth word, and written without
-module _ (C : Contract) (known : Established C) (v : Verdicts) (of : VerdictsOf (C .input .marks) (C .output .marks) v)
-    (t : Tree) (held written : List ℕ) (kind : held ≡ kindOf C t ++ (0 ∷ [])) (puts : written ≡ take 5 held) where
-  five : take 5 held ≡ kindOf C t
-  five = ap (λ (k : List ℕ). take 5 k) kind ∙ kind-taken C t
+-- 0, not of the input type; 1, of it and not breaking the contract; 2, of it and breaking
+abbrev pub judgementBy : (accepts breaks : Bool) → Answer
+judgementBy accepts breaks = judged (choose accepts (choose breaks 2 1) 0)
 
-  accepts : (b : Bool) → b ≡ accepting (v .accepted) held → ofInputType C (kindOf C t) ≡ b
-  accepts b e = sym (ap (ofInputType C) five) ∙ sym (accepting-is C known v of held) ∙ sym e
+-- what the two words of a contract tell of a kind
+abbrev pub told : Verdicts → List ℕ → Answer
+told v kind = judgementBy (accepting (v .accepted) kind) (breaking (v .accepted) (v .refused) kind)
 
-  breaks-it : (b : Bool) → b ≡ breaking (v .accepted) (v .refused) held → breaks C (kindOf C t) ≡ b
-  breaks-it b e = sym (ap (breaks C) five) ∙ sym (breaking-is C known v of held) ∙ sym e
-
-  pub comes-outside : false ≡ accepting (v .accepted) held → Comes (judged 0) written (judgedTree C t)
-  unfolding judgement
-  comes-outside a = record { answers = rw (accepts false a); closes = puts ∙ five }
-
-  pub comes-sound : true ≡ accepting (v .accepted) held → false ≡ breaking (v .accepted) (v .refused) held → Comes (judged 1) written (judgedTree C t)
-  unfolding judgement
-  comes-sound a b = record { answers = rw (accepts true a, breaks-it false b); closes = puts ∙ five }
-
-  pub comes-breaking : true ≡ accepting (v .accepted) held → true ≡ breaking (v .accepted) (v .refused) held → Comes (judged 2) written (judgedTree C t)
-  unfolding judgement
-  comes-breaking a b = record { answers = rw (accepts true a, breaks-it true b); closes = puts ∙ five }
+-- which is the judgement; the kind of a tree is held with a sixth word, and written without
+pub comes-judged : (C : Contract) (v : Verdicts) (t : Tree) (answer : Answer) (held written : List ℕ) → Established C → VerdictsOf (C .input .marks) (C .output .marks) v
+    → held ≡ kindOf C t ++ (0 ∷ [])
+    → written ≡ take 5 held
+    → answer ≡ told v held
+    → Comes answer written (judgedTree C t)
+unfolding judgement
+comes-judged C v t answer held written known of kind puts says =
+    let five : take 5 held ≡ kindOf C t = ap (λ (k : List ℕ). take 5 k) kind ∙ kind-taken C t in
+    let is : told v held ≡ judged (judgement C (take 5 held)) = ap₂ judgementBy (accepting-is C known v of held) (breaking-is C known v of held) in
+    record { answers = says ∙ is ∙ ap (λ (k : List ℕ). judged (judgement C k)) five; closes = puts ∙ five }
 
 module _ (C : Contract) (numbers buffer : List ℕ) where
   pub refused-contract : (fault : ContractFault) → contractRefusal fault ≡ admit C → Comes (contractRefusal fault) buffer (judging C numbers buffer)

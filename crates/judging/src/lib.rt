@@ -8,10 +8,11 @@ ghost use Rattle.model.specs.Judging.{judging};
 ghost use Rattle.model.proofs.Laws.Documents.{Document};
 ghost use Rattle.answers.specs.Numbers.{judgingAnswer};
 ghost use Rattle.prepared.specs.Parts.{contractIn, Ready};
-ghost use Rattle.judging.specs.Steps.{Comes, judgedTree};
+ghost use Rattle.judging.specs.Steps.{Comes, judgedTree, told};
 use admission::admit;
 use answers::AdmissionAnswer;
 use answers::JudgingAnswer;
+use breaking::Verdicts;
 use breaking::breaks;
 use breaking::of_input_type;
 use document_kinds::document_kind;
@@ -34,7 +35,20 @@ fn write_kind(words: &[u64; 6], kind: &mut [u64])
     kind[4] = words[4];
 }
 
-// Judges a document by a prepared contract: writes the kind of its tree, and says what the kind tells.
+// What a kind tells of its document.
+fn judgement_of(verdicts: Verdicts, kind: &[u64; 6]) -> JudgingAnswer
+    ensures { λ r. ⌜ judgingAnswer r ≡ told verdicts (now (kind .entry)) ⌝ }
+{
+    if of_input_type(verdicts, kind) {
+        if breaks(verdicts, kind) {
+            return JudgingAnswer::Breaking;
+        }
+        return JudgingAnswer::Sound;
+    }
+    JudgingAnswer::Outside
+}
+
+// Judges a document by a prepared contract: the kind of its tree is written, and tells the answer.
 fn judge_prepared(
     prepared: Prepared,
     table: &[u16],
@@ -46,14 +60,7 @@ fn judge_prepared(
 {
     let words = document_kind(prepared, table, numbers);
     write_kind(&words, kind);
-    let verdicts = prepared.verdicts;
-    if of_input_type(verdicts, &words) {
-        if breaks(verdicts, &words) {
-            return JudgingAnswer::Breaking;
-        }
-        return JudgingAnswer::Sound;
-    }
-    JudgingAnswer::Outside
+    judgement_of(prepared.verdicts, &words)
 }
 
 // Judges a document: the answer, and the kind of its tree in `kind`, which is not written where something is refused.
