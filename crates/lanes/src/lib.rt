@@ -7,13 +7,9 @@ ghost use mathlib.Core.List.{[], _∷_};
 ghost use Prim.Native.Nat.{ℕ, _+_, _*_, _-_, _/_, _^_, _<_, _≤_};
 ghost use lib.ListN.{length, getD};
 ghost use lib.Bits.{bitAnd};
-<<<<<<< HEAD
 ghost use Rattle.kind_words.specs.Lanes.{Sized, Laid, StatesAt, symbolRow, symbolWord, callLanes};
-=======
-ghost use Rattle.kind_words.specs.Lanes.{Sized, Laid, StatesAt, symbolRow, symbolWord, callRow, callTwo, callOne};
 use tables::OutputState;
 use tables::output_state_at;
->>>>>>> 2ec9f9b209a3e268196ea61b87c0464afff334e6
 
 // How the words of a contract are laid out: its output states, the bits in a lane, a lane of ones at state 0, the first bit
 // of each lane, and the words of the first and the second parameter.
