@@ -2,6 +2,7 @@
 // branches. A procedure of fewer parameters than the greatest count has narrower lanes than the nodes' words have.
 ghost use mathlib.Core.Path.{_≡_};
 ghost use Prim.Native.Nat.{_+_, _*_, _-_, _^_, _<_, _≤_};
+ghost use Rattle.model.specs.Admission.{mostFacts};
 ghost use Rattle.kind_words.specs.Lanes.{Sized};
 ghost use Rattle.kind_words.specs.Blocks.{factsFrom, widened, narrowedLane, narrowed, withBlock};
 use lanes::lane;
@@ -9,7 +10,7 @@ use lanes::up;
 
 // The 64 facts from a number on.
 pub fn facts_from(kind: &[u64; 6], number: usize) -> u64
-    requires { ⌜ number < 256 ⌝ }
+    requires { ⌜ number < mostFacts ⌝ }
     ensures { λ r. ⌜ r ≡ factsFrom (now (kind .entry)) number ⌝ }
 {
     let place = (number % 64) as u64;
@@ -20,7 +21,7 @@ pub fn facts_from(kind: &[u64; 6], number: usize) -> u64
 
 // A block of facts joined to those from a number on.
 pub fn put_block(kind: &mut [u64; 6], block: u64, number: usize)
-    requires { ⌜ number < 256 ⌝ }
+    requires { ⌜ number < mostFacts ⌝ }
     ensures { λ _. ⌜ now (kind .exit) ≡ withBlock (now (kind .entry)) block number ⌝ }
 {
     let place = (number % 64) as u64;

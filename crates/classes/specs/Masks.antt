@@ -52,10 +52,14 @@ pub record Covers (C : Contract) (s : ℕ) (masks : Child → List ℕ) : Type 0
   pub rightStates : (k : ℕ) → k < inputRowCount (C .input .rows) → inputRow (C .input .rows) k .symbol ≡ s
       → bit (getD (masks right) 0 0) (inputRow (C .input .rows) k .right) ≡ true
 
--- the mask of symbol s: five words a symbol
+-- how many words a mask has
+abbrev pub maskWords : ℕ
+maskWords = 5
+
+-- the mask of symbol s
 abbrev pub maskIn : List ℕ → ℕ → List ℕ
 maskIn masks s =
-    getD masks (5 * s) 0 ∷ getD masks (5 * s + 1) 0 ∷ getD masks (5 * s + 2) 0 ∷ getD masks (5 * s + 3) 0 ∷ getD masks (5 * s + 4) 0 ∷ []
+    getD masks (maskWords * s) 0 ∷ getD masks (maskWords * s + 1) 0 ∷ getD masks (maskWords * s + 2) 0 ∷ getD masks (maskWords * s + 3) 0 ∷ getD masks (maskWords * s + 4) 0 ∷ []
 
 -- the masks of all symbols show what the symbols can see
 pub record Covered (C : Contract) (leftMasks rightMasks : List ℕ) : Type 0 where

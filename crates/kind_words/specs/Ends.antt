@@ -14,6 +14,7 @@ use Rattle.foundation.specs.Tests.{_and_, same, some-cong}
 use Rattle.foundation.specs.TestLaws.{and-true, same-no}
 use Rattle.foundation.specs.Bits.{bit-zero}
 use Rattle.model.specs.Tables.{Contract, inputRow}
+use Rattle.model.specs.Admission.{mostFacts}
 use Rattle.model.specs.Expressions.{Child, left, right}
 use Rattle.model.specs.Facts.{FactSet, noFacts, onSide, factNumber, factsAt}
 use Rattle.model.specs.Kinds.{factsIn, bitOfFact, stateIn, reachedNext, reachedEmpty, nextKind, emptyKind, kindWords}
@@ -36,7 +37,7 @@ module _ (C : Contract) (known : Established C) where
       record {
         at = λ p q qs is.
             let f : ℕ = factNumber (C .output .states) (C .transformation .counts) p q qs in
-            let h : f < 256 = omega (arith, fact-number-lt (C .output .states) (C .transformation .counts) p q qs is, known .facts) in
+            let h : f < mostFacts = omega (arith, fact-number-lt (C .output .states) (C .transformation .counts) p q qs is, known .facts) in
             ap (λ (w : ℕ). bit w (f % 64)) (sym (getD-take 5 k (1 + f / 64) 0 (omega arith)));
       }
 

@@ -6,8 +6,9 @@ use native.Mathlib.Nat.{pow-le-pow-right, mul-le-mul-right, one-le-pow}
 use native.Mathlib.Omega.{arith}
 use lib.ListN.{length, getD}
 use Rattle.model.specs.Tables.{Contract, inputRow, inputRowCount, Node, nodeAt, nodeCount, ruleAt, ruleCount, countOf}
-use Rattle.model.specs.Admission.{tableLength}
+use Rattle.model.specs.Admission.{tableLength, mostFacts}
 use Rattle.model.proofs.Laws.Established.{Established, GoodNode, good-parameter, good-nothing, good-symbol, good-call}
+use Rattle.kind_words.specs.Sizes.{mostSymbols, mostInputStates, mostProcedures, mostNodes, nextRules, nextRows}
 use Rattle.kind_words.specs.Lanes.{Laid}
 use Rattle.kind_words.specs.Listed.{Layout}
 use Rattle.kind_words.specs.Kind.{Prepared, RulesChained, RowsChained, lanes-fit, offset-inside}
@@ -23,7 +24,7 @@ pub record OutputFits (lay : Layout) (table : List ℕ) (name : ℕ) : Type 0 wh
   pub layout : LayoutFits lay
   pub entry : (k : ℕ) → getD table k 0 < lay .states
   pub leaf : 0 < length table
-  pub small : name < 16
+  pub small : name < mostSymbols
   pub room : 1 ≤ name → 1 + (name - 1) * lay .states * lay .states + lay .states * lay .states ≤ length table
 
 -- a procedure of that count has its facts from a number on
@@ -31,45 +32,45 @@ pub record ProcedureFits (lay : Layout) (count number : ℕ) : Type 0 where
   pub layout : LayoutFits lay
   pub parameters : count ≤ 2
   pub narrow : lay .states ^ count ≤ lay .width
-  pub inside : number < 256
+  pub inside : number < mostFacts
 
 -- the tables from which the words of nodes are computed
 pub record NodesFit (lay : Layout) (offsets counts table nodes : List ℕ) : Type 0 where
   pub symbols : ℕ
   pub layout : LayoutFits lay
-  pub fewSymbols : symbols ≤ 16
+  pub fewSymbols : symbols ≤ mostSymbols
   pub tableLong : length table ≡ tableLength symbols (lay .states)
   pub entry : (k : ℕ) → getD table k 0 < lay .states
-  pub procedures : length counts ≤ 16
+  pub procedures : length counts ≤ mostProcedures
   pub procedure : (p : ℕ) → p < length counts → ProcedureFits lay (countOf counts p) (getD offsets p 0)
-  pub fewNodes : nodeCount nodes ≤ 256
+  pub fewNodes : nodeCount nodes ≤ mostNodes
   pub node : (n : ℕ) → n < nodeCount nodes → GoodNode symbols counts n (nodeAt nodes n)
 
 -- the rules
 pub record RulesFit (lay : Layout) (offsets counts rules : List ℕ) : Type 0 where
   pub layout : LayoutFits lay
-  pub procedures : length counts ≤ 16
+  pub procedures : length counts ≤ mostProcedures
   pub procedure : (p : ℕ) → p < length counts → ProcedureFits lay (countOf counts p) (getD offsets p 0)
   pub isProcedure : (r : ℕ) → r < ruleCount rules → ruleAt rules r .procedure < length counts
-  pub isNode : (r : ℕ) → r < ruleCount rules → ruleAt rules r .node < 256
+  pub isNode : (r : ℕ) → r < ruleCount rules → ruleAt rules r .node < mostNodes
 
 -- the input rows
 pub record RowsFit (rows : List ℕ) : Type 0 where
-  pub state : (r : ℕ) → r < inputRowCount rows → inputRow rows r .state < 32
-  pub left : (r : ℕ) → r < inputRowCount rows → inputRow rows r .left < 32
-  pub right : (r : ℕ) → r < inputRowCount rows → inputRow rows r .right < 32
+  pub state : (r : ℕ) → r < inputRowCount rows → inputRow rows r .state < mostInputStates
+  pub left : (r : ℕ) → r < inputRowCount rows → inputRow rows r .left < mostInputStates
+  pub right : (r : ℕ) → r < inputRowCount rows → inputRow rows r .right < mostInputStates
 
 -- the rules, in chains
 pub record RulesIn (lay : Layout) (offsets counts rules lists : List ℕ) : Type 0 where
   pub fit : RulesFit lay offsets counts rules
   pub chained : RulesChained rules lists
-  pub long : 64 + ruleCount rules ≤ length lists
+  pub long : nextRows rules ≤ length lists
 
 -- the input rows, in chains, with what follows each row from a place on
 pub record RowsIn (rows lists : List ℕ) (nexts : ℕ) : Type 0 where
   pub fit : RowsFit rows
   pub chained : RowsChained rows lists nexts
-  pub behind : 64 ≤ nexts
+  pub behind : nextRules ≤ nexts
   pub long : nexts + inputRowCount rows ≤ length lists
 
 module _ {lay : Layout} {offsets counts table nodes : List ℕ} (fit : NodesFit lay offsets counts table nodes) (n : ℕ) (h : n < nodeCount nodes) where
@@ -90,7 +91,7 @@ module _ {lay : Layout} {offsets counts table nodes : List ℕ} (fit : NodesFit 
   output-fits e =
       record { layout = fit .layout; entry = fit .entry; leaf = omega (arith, fit .tableLong); small = small (fit .node n h); room = room (fit .node n h) }
     where
-      small : GoodNode (fit .symbols) counts n node → node .name < 16
+      small : GoodNode (fit .symbols) counts n node → node .name < mostSymbols
       small (good-parameter t a b) = absurd (omega arith)
       small (good-nothing t z) = omega arith
       small (good-symbol t a b c d) = omega (arith, fit .fewSymbols)
@@ -201,7 +202,7 @@ module _ {C : Contract} {lay : Layout} {offsets lists : List ℕ} (prepared : Pr
         long = omega (arith, prepared .lists .long);
       }
 
-  pub rows-in : (nexts : ℕ) → nexts ≡ 64 + ruleCount (C .transformation .rules) → RowsIn (C .input .rows) lists nexts
+  pub rows-in : (nexts : ℕ) → nexts ≡ nextRows (C .transformation .rules) → RowsIn (C .input .rows) lists nexts
   rows-in nexts e =
       record {
         fit =

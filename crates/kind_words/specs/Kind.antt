@@ -18,9 +18,11 @@ use Rattle.model.specs.Tables.{Contract, inputRow, inputRowCount, nodeCount, ru
 use Rattle.model.specs.Expressions.{Child}
 use Rattle.model.specs.Outputs.{rightSide}
 use Rattle.model.specs.Facts.{onSide, offset, factsAt}
+use Rattle.model.specs.Admission.{mostFacts}
 use Rattle.model.specs.Kinds.{factsIn, nextKind, kindWords, numberedFact}
 use Rattle.model.proofs.Laws.Established.{Established}
 use Rattle.model.proofs.Laws.Facts.{numbered-none, offset-next}
+use Rattle.kind_words.specs.Sizes.{mostSymbols, listLengths, firstRules, firstRows, nextRules, nextRows}
 use Rattle.kind_words.specs.Lanes.{Lanes, lanes-eq}
 use Rattle.kind_words.specs.Blocks.{narrowed-lanes, Holds, block-holds, nothing-holds, Words}
 use Rattle.kind_words.specs.Nodes.{LanesAre, NodeIs}
@@ -30,17 +32,13 @@ use Rattle.kind_words.specs.Chains.{Chained}
 use Rattle.kind_words.specs.Rules.{ruleBlock, withRule, withRules, placed, allFacts, all-facts-bit, block-is}
 use Rattle.kind_words.specs.States.{rowStates, states-are}
 
--- The table of lists begins with four numbers for each of sixteen symbols: at place s where the list of the nodes that its
--- rules reach starts, at 16 + s how many they are, at 32 + s its first rule, at 48 + s its first input row. From 64 on it has
--- after each rule the next one of its symbol, then the same for input rows, then the nodes.
-
--- how many numbers it takes at most
+-- how many numbers the table of lists takes at most
 abbrev pub listsLength : (rows nodes rules : List ℕ) → ℕ
-listsLength rows nodes rules = 64 + ruleCount rules + inputRowCount rows + 16 * nodeCount nodes
+listsLength rows nodes rules = nextRows rules + inputRowCount rows + mostSymbols * nodeCount nodes
 
 -- how many nodes the list of symbol s has
 abbrev pub listLength : List ℕ → ℕ → ℕ
-listLength lists s = getD lists (16 + s) 0
+listLength lists s = getD lists (listLengths + s) 0
 
 -- place i of the list of symbol s
 abbrev pub listed : List ℕ → ℕ → ℕ → ℕ
@@ -50,7 +48,15 @@ listed lists s i = getD lists (getD lists s 0 + i) 0
 abbrev pub listOf : List ℕ → ℕ → List ℕ
 listOf lists s = take (listLength lists s) (drop (getD lists s 0) lists)
 
-module _ (lists : List ℕ) (s : ℕ) (inside : getD lists s 0 + listLength lists s ≤ length lists) where
+-- it lies inside the table
+abbrev pub ListInside : List ℕ → ℕ → Type 0
+ListInside lists s = getD lists s 0 + listLength lists s ≤ length lists
+
+-- a list of n nodes from a place on made the list of symbol s
+abbrev pub withList : List ℕ → (s start n : ℕ) → List ℕ
+withList lists s start n = set (set lists s start) (listLengths + s) n
+
+module _ (lists : List ℕ) (s : ℕ) (inside : ListInside lists s) where
   pub list-length : length (listOf lists s) ≡ listLength lists s
   list-length = simp (length-take, length-drop) (omega arith)
 
@@ -92,22 +98,22 @@ pub record LayoutFor (O : ℕ) (counts : List ℕ) (lay : Layout) : Type 0 where
 
 -- the rules of each symbol in a chain
 abbrev pub RulesChained : (rules lists : List ℕ) → Type 0
-RulesChained rules lists = Chained (λ r. ruleAt rules r .symbol) (ruleCount rules) 32 64 0 lists
+RulesChained rules lists = Chained (λ r. ruleAt rules r .symbol) (ruleCount rules) firstRules nextRules 0 lists
 
 -- the input rows of each symbol in a chain
 abbrev pub RowsChained : (rows lists : List ℕ) (nexts : ℕ) → Type 0
-RowsChained rows lists nexts = Chained (λ r. inputRow rows r .symbol) (inputRowCount rows) 48 nexts 0 lists
+RowsChained rows lists nexts = Chained (λ r. inputRow rows r .symbol) (inputRowCount rows) firstRows nexts 0 lists
 
 -- for each symbol a list of nodes: those that its rules reach, each after what it refers to; and its rules and its input rows
 -- in chains
 pub record ListsFor (counts nodes rules rows lists : List ℕ) : Type 0 where
-  pub long : 64 + ruleCount rules + inputRowCount rows ≤ length lists
-  pub inside : (s : ℕ) → s < 16 → getD lists s 0 + listLength lists s ≤ length lists
-  pub list : (s : ℕ) → s < 16 → ListOf counts nodes (at (listOf lists s)) (length (listOf lists s))
+  pub long : nextRows rules + inputRowCount rows ≤ length lists
+  pub inside : (s : ℕ) → s < mostSymbols → ListInside lists s
+  pub list : (s : ℕ) → s < mostSymbols → ListOf counts nodes (at (listOf lists s)) (length (listOf lists s))
   pub onList : (r : ℕ) → r < ruleCount rules
       → Before (at (listOf lists (ruleAt rules r .symbol))) (length (listOf lists (ruleAt rules r .symbol))) (ruleAt rules r .node)
   pub ofRules : RulesChained rules lists
-  pub ofRows : RowsChained rows lists (64 + ruleCount rules)
+  pub ofRows : RowsChained rows lists (nextRows rules)
 
 -- what preparation makes of an admitted contract
 pub record Prepared (C : Contract) (lay : Layout) (offsets listing : List ℕ) : Type 0 where
@@ -142,7 +148,7 @@ module _ (C : Contract) (K : ℕ) (l r : List ℕ) (offsets : List ℕ) (ones st
       → ((i : ℕ) → i < n → ruleAt (C .transformation .rules) i .symbol ≡ s
       → (block i < 2 ^ 64)
       × (ruleAt (C .transformation .rules) i .procedure < length (C .transformation .counts))
-      × (offset O (C .transformation .counts) (ruleAt (C .transformation .rules) i .procedure) < 256))
+      × (offset O (C .transformation .counts) (ruleAt (C .transformation .rules) i .procedure) < mostFacts))
       → Holds (withRules lay offsets (C .transformation .counts) (C .transformation .rules) s words kind n) (orTo (placed C facts s block some) n)
   unfolding withRules withRule orTo
   rules-hold some place kind hk zero h = hk
@@ -194,7 +200,7 @@ six (a ∷ b ∷ c ∷ d ∷ e ∷ f ∷ g ∷ k) w h = absurd (omega arith)
 
 -- a procedure's facts begin within the words
 pub offset-inside : (C : Contract) → Established C → (p : ℕ) → p < length (C .transformation .counts)
-    → offset (C .output .states) (C .transformation .counts) p < 256
+    → offset (C .output .states) (C .transformation .counts) p < mostFacts
 offset-inside C known p h =
     let a : 0 < C .output .states ^ suc (countOf (C .transformation .counts) p) =
     one-le-pow (suc (countOf (C .transformation .counts) p)) (C .output .states) (known .outputStates .least≤) in
@@ -221,7 +227,7 @@ module _ (C : Contract) (lay : Layout) (offsets lists : List ℕ) (prepared : Pr
         fit = λ p. lanes-fit O′ (countOf (C .transformation .counts) p) (known .outputStates .least≤) (known .outputStates .≤most) (known .count p);
       }
 
-  module _ (before : List ℕ) (long : nodeCount (C .transformation .nodes) ≤ length before) (s : ℕ) (hs : s < 16) (l r : List ℕ) (leftWords : Words l)
+  module _ (before : List ℕ) (long : nodeCount (C .transformation .nodes) ≤ length before) (s : ℕ) (hs : s < mostSymbols) (l r : List ℕ) (leftWords : Words l)
       (rightWords : Words r) where
     abbrev facts′ : Child → ℕ → ℕ → List ℕ → Bool
     facts′ = onSide (factsIn C l) (factsIn C r)

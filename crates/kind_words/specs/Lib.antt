@@ -1,4 +1,5 @@
 -- The table form of a kind, bit by bit, up to the model's `nextKind`.
+pub mod Sizes
 pub mod Lanes
 pub mod Blocks
 pub mod Nodes

@@ -11,6 +11,17 @@ ghost use Rattle.kind_words.specs.Lanes.{Sized, Laid, StatesAt, symbolRow, symb
 use tables::OutputState;
 use tables::output_state_at;
 
+// The most symbols, procedures, input rows, nodes and rules that an admitted contract has: there is room for so many.
+pub const SYMBOLS: usize = 16;
+
+pub const PROCEDURES: usize = 16;
+
+pub const INPUT_ROWS: usize = 512;
+
+pub const NODES: usize = 256;
+
+pub const RULES: usize = 256;
+
 // How the words of a contract are laid out: its output states, the bits in a lane, a lane of ones at state 0, the first bit
 // of each lane, and the words of the first and the second parameter.
 pub struct Layout {
@@ -42,6 +53,14 @@ pub fn place_at(table: &[u16], k: usize) -> usize
     ensures { λ r. ⌜ r ≡ getD (now (table .entry)) k 0 ⌝ }
 {
     place(table[k])
+}
+
+// A number as a table entry.
+pub fn entry_of(n: usize) -> u16
+    requires { ⌜ n < 65536 ⌝ }
+    ensures { λ r. ⌜ r ≡ n ⌝ }
+{
+    n as u16
 }
 
 // A word put some bits up, where it fits.

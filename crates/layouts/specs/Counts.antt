@@ -2,6 +2,7 @@
 use Prim.Native.Nat.{ℕ, _<_, _≤_}
 use lib.ListN.{length}
 use Rattle.model.specs.Tables.{Contract}
+use Rattle.model.specs.Admission.{mostFacts}
 use Rattle.model.specs.Facts.{offset}
 use Rattle.model.proofs.Laws.Established.{Established}
 use Rattle.numbering.specs.Counts.{SmallCounts}
@@ -12,5 +13,5 @@ small-counts C known =
     record { states≤ = known .outputStates .≤most; procedures≤ = known .procedures .≤most; count≤ = known .count }
 
 pub offsets-inside : (C : Contract) → Established C → (p : ℕ) → p < length (C .transformation .counts)
-    → offset (C .output .states) (C .transformation .counts) p < 256
+    → offset (C .output .states) (C .transformation .counts) p < mostFacts
 offsets-inside C known p h = offset-inside C known p h

@@ -4,6 +4,7 @@ ghost use mathlib.Core.Path.{_≡_};
 ghost use Prim.Native.Nat.{ℕ, _<_, _≤_, max};
 ghost use lib.ListN.{length, getD};
 ghost use Rattle.model.specs.Tables.{countOf};
+ghost use Rattle.model.specs.Admission.{mostFacts};
 ghost use Rattle.model.specs.Facts.{offset};
 ghost use Rattle.numbering.specs.Counts.{SmallCounts};
 ghost use Rattle.kind_words.specs.Lanes.{Sized};
@@ -13,6 +14,7 @@ ghost use Rattle.layouts.specs.LaneWords.{startsWord, parameterWord, Gre
 use blocks::assignments;
 use blocks::lane_of_ones;
 use lanes::Layout;
+use lanes::PROCEDURES;
 use lanes::up;
 use numbering::fact_offset;
 use tables::Procedure;
@@ -104,18 +106,18 @@ pub fn layout_of(states: usize, counts: &[u16]) -> Layout
 
 // A procedure's offset as a table entry.
 fn offset_entry(states: usize, counts: &[u16], procedure: Procedure) -> u16
-    requires { ⌜ SmallCounts states (now counts) × (procedure .0 < length (now counts)) × (offset states (now counts) (procedure .0) < 256) ⌝ }
+    requires { ⌜ SmallCounts states (now counts) × (procedure .0 < length (now counts)) × (offset states (now counts) (procedure .0) < mostFacts) ⌝ }
     ensures { λ r. ⌜ r ≡ offset states (now (counts .entry)) (procedure .0) ⌝ }
 {
     fact_offset(states, counts, procedure) as u16
 }
 
 // The offsets of a contract's procedures.
-pub fn offsets_of(states: usize, counts: &[u16]) -> [u16; 16]
-    requires { ⌜ SmallCounts states (now counts) × ((p : ℕ) → p < length (now counts) → offset states (now counts) p < 256) ⌝ }
+pub fn offsets_of(states: usize, counts: &[u16]) -> [u16; PROCEDURES]
+    requires { ⌜ SmallCounts states (now counts) × ((p : ℕ) → p < length (now counts) → offset states (now counts) p < mostFacts) ⌝ }
     ensures { λ r. ⌜ ((p : ℕ) → p < length (now (counts .entry)) → getD r p 0 ≡ offset states (now (counts .entry)) p) ⌝ }
 {
-    let mut offsets = [0u16; 16];
+    let mut offsets = [0u16; PROCEDURES];
     let mut p: usize = 0;
     while p < counts.len() {
         let procedure = Procedure(p as u16);

@@ -19,10 +19,11 @@ use Rattle.foundation.specs.Bits.{bit-shl, bit-ones, bit-or}
 use Rattle.model.specs.Tables.{Contract, Node, nodeAt, nodeCount, ruleAt, countOf}
 use Rattle.model.specs.Expressions.{Child, left, right, childOf, Expression, argumentsOf, expression}
 use Rattle.model.specs.Facts.{offset}
-use Rattle.model.specs.Admission.{references}
+use Rattle.model.specs.Admission.{references, mostFacts}
 use Rattle.model.proofs.Laws.Established.{Established, GoodNode, good-parameter, good-nothing, good-symbol, good-call}
 use Rattle.model.proofs.Laws.Expressions.{expression-parameter, expression-nothing, expression-symbol, expression-call}
 use Rattle.model.proofs.Laws.Facts.{offset-next}
+use Rattle.kind_words.specs.Sizes.{mostSymbols, mostProcedures}
 use Rattle.kind_words.specs.Blocks.{withBlock, Holds, block-holds, nothing-holds}
 use Rattle.kind_words.specs.Listed.{Layout, at, AreNodes, Before, ListOf}
 use Rattle.kind_words.specs.Called.{OffsetsIn}
@@ -45,9 +46,9 @@ pub record CallFits (O : ℕ) (counts offsets : List ℕ) (node : Node) : Type 0
   pub least : 1 ≤ O
   pub most : O ≤ 4
   pub few : countOf counts (node .name) ≤ 2
-  pub procedures : length counts ≤ 16
+  pub procedures : length counts ≤ mostProcedures
   pub named : node .tag ≡ 2 → node .name < length counts
-  pub near : node .tag ≡ 2 → getD offsets (node .name) 0 < 256
+  pub near : node .tag ≡ 2 → getD offsets (node .name) 0 < mostFacts
 
 -- a mask with the facts that a node calls on a side
 unfoldable pub withCall : (O : ℕ) (counts offsets : List ℕ) → Bool → Node → List ℕ → List ℕ
@@ -176,7 +177,7 @@ module _ (C : Contract) (known : Established C) where
               let p : 2 ^ w ≤ 2 ^ 64 = pow-mono {i = w} {j = 64} (ones-small _ (known .count _)) in
               omega (arith, pow-pos w)
 
-          near : nodeAt nodes (list i) .name < length counts → from < 256
+          near : nodeAt nodes (list i) .name < length counts → from < mostFacts
           near l =
               let e : from ≡ offset O counts (nodeAt nodes (list i) .name) = places _ l in
               omega (arith, e, offset-next O counts (nodeAt nodes (list i) .name) l, known .facts, pow-some O (suc (countOf counts (nodeAt nodes (list i) .name))) (known .outputStates .least≤))
@@ -251,7 +252,7 @@ child-on (suc (suc zero)) false l m e = absurd (left-not-right (sym e))
 child-on (suc (suc (suc c))) b l m e = absurd (omega arith)
 
 -- what a prepared contract has for symbol s
-module _ {C : Contract} {lay : Layout} {offsets lists : List ℕ} (prepared : Prepared C lay offsets lists) (s : ℕ) (h : s < 16) where
+module _ {C : Contract} {lay : Layout} {offsets lists : List ℕ} (prepared : Prepared C lay offsets lists) (s : ℕ) (h : s < mostSymbols) where
   abbrev known′ : Established C
   known′ = prepared .established
 
@@ -326,6 +327,6 @@ module _ {C : Contract} {lay : Layout} {offsets lists : List ℕ} (prepared : Pr
           record {
             fact = λ k hk.
                 let f : ℕ = offset (C .output .states) (C .transformation .counts) p + k in
-                let low : f < 256 = omega (arith, offset-next (C .output .states) (C .transformation .counts) p is, known′ .facts) in
+                let low : f < mostFacts = omega (arith, offset-next (C .output .states) (C .transformation .counts) p is, known′ .facts) in
                 ap (λ (x : ℕ). bit x (f % 64)) (word (f / 64) (omega arith)) ∙ shown .holds .bits f (omega arith) ∙ shown .called i l (on-side n isNode t e) k hk;
           }

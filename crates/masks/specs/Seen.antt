@@ -23,7 +23,7 @@ use Rattle.model.specs.Facts.{onSide}
 use Rattle.kind_words.specs.Chains.{NextFrom, or-first, or-next}
 use Rattle.kind_words.specs.Fits.{RowsFit}
 use Rattle.classes.specs.Agreement.{EachCall, EachCallOfAll}
-use Rattle.classes.specs.Masks.{ShowsFacts, maskIn, Covered}
+use Rattle.classes.specs.Masks.{ShowsFacts, maskWords, maskIn, Covered}
 
 -- the side that a flag names
 abbrev pub sideOf : Bool → Child
@@ -126,11 +126,11 @@ covered C leftMasks rightMasks l r =
 -- the first n words of the mask of symbol s put among the masks
 unfoldable pub storedTo : (masks : List ℕ) (s : ℕ) (mask : List ℕ) → ℕ → List ℕ
 storedTo masks s mask zero = masks
-storedTo masks s mask (suc n) = set (storedTo masks s mask n) (5 * s + n) (getD mask n 0)
+storedTo masks s mask (suc n) = set (storedTo masks s mask n) (maskWords * s + n) (getD mask n 0)
 
 -- .. and all of it
 abbrev pub stored : (masks : List ℕ) (s : ℕ) (mask : List ℕ) → List ℕ
-stored masks s mask = storedTo masks s mask 5
+stored masks s mask = storedTo masks s mask maskWords
 
 module _ (masks : List ℕ) (s : ℕ) (mask : List ℕ) where
   abbrev put : ℕ → List ℕ
@@ -140,7 +140,7 @@ module _ (masks : List ℕ) (s : ℕ) (mask : List ℕ) where
   unfolding storedTo
   stored-none = refl
 
-  pub stored-more : (current : List ℕ) (i place : ℕ) → current ≡ put i → place ≡ 5 * s + i → set current place (getD mask i 0) ≡ put (i + 1)
+  pub stored-more : (current : List ℕ) (i place : ℕ) → current ≡ put i → place ≡ maskWords * s + i → set current place (getD mask i 0) ≡ put (i + 1)
   unfolding storedTo
   stored-more current i place e f = rw (e, f, add-one i)
 
@@ -163,7 +163,7 @@ module _ (masks : List ℕ) (s : ℕ) (mask : List ℕ) where
       go before (yes e) = rw e (getD-set-same (put n) (5 * s + n) (getD mask n 0) 0 (rw (long n) (omega arith)))
       go before (no ne) = getD-set-other (put n) (5 * s + n) (5 * s + i) (getD mask n 0) 0 (λ e. omega arith) ∙ before (omega arith)
 
-  stored-here : 5 * s + 5 ≤ length masks → maskIn (stored masks s mask) s ≡ maskIn mask 0
+  stored-here : maskWords * s + maskWords ≤ length masks → maskIn (stored masks s mask) s ≡ maskIn mask 0
   stored-here h =
       let at : (i : ℕ) → i < 5 → getD (put 5) (5 * s + i) 0 ≡ getD mask i 0 = λ i l. put-at 5 i l h in
       let at0 : getD (put 5) (5 * s) 0 ≡ getD mask 0 0 = rw add-zero at (at 0 (omega arith)) in
@@ -180,7 +180,7 @@ module _ (masks : List ℕ) (s : ℕ) (mask : List ℕ) where
       )
 
 -- the masks with one symbol's mask more
-pub see-more : (C : Contract) (onRight : Bool) (s : ℕ) (masks mask : List ℕ) → 5 * s + 5 ≤ length masks → AllSee C onRight s masks → Sees C s onRight (maskIn mask 0)
+pub see-more : (C : Contract) (onRight : Bool) (s : ℕ) (masks mask : List ℕ) → maskWords * s + maskWords ≤ length masks → AllSee C onRight s masks → Sees C s onRight (maskIn mask 0)
     → AllSee C onRight (s + 1) (stored masks s mask)
 see-more C onRight s masks mask h all here = record { sees = λ t l k. go t l k (ℕ-discrete t s) }
   where

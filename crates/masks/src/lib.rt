@@ -5,9 +5,10 @@ ghost use Prim.Native.Nat.{_+_, _*_, _<_, _≤_};
 ghost use lib.ListN.{length, replicate};
 ghost use Rattle.foundation.specs.Tests.{choose};
 ghost use Rattle.tables.specs.Tuples.{inputRowOf, nodeOf};
+ghost use Rattle.kind_words.specs.Sizes.{mostSymbols};
 ghost use Rattle.kind_words.specs.Fits.{RowsIn};
 ghost use Rattle.prepared.specs.Parts.{contractIn, listsIn, Ready};
-ghost use Rattle.classes.specs.Masks.{maskIn, Covered};
+ghost use Rattle.classes.specs.Masks.{maskWords, maskIn, Covered};
 ghost use Rattle.masks.specs.Seen.{stateOn, stateBit, statesSeen, stored, Sees, AllSee};
 ghost use Rattle.masks.specs.Calls.{onesFor, withCall, CallFits, CallsFit, factsCalled, factsSeen};
 use blocks::assignments;
@@ -17,6 +18,8 @@ use chains::first_row;
 use chains::list_of;
 use chains::row_after;
 use chains::rows_from;
+use lanes::PROCEDURES;
+use lanes::SYMBOLS;
 use lanes::place;
 use lanes::place_at;
 use lanes::up;
@@ -29,6 +32,11 @@ use tables::Procedure;
 use tables::Symbol;
 use tables::input_row_at;
 use tables::node_at;
+
+// How many words a mask has, and the masks of all symbols.
+const MASK_WORDS: usize = 5;
+
+pub const MASKS: usize = MASK_WORDS * SYMBOLS;
 
 // The state that an input row names on a side.
 fn state_on(row: InputRow, on_right: bool) -> InputState
@@ -51,7 +59,7 @@ fn state_bit(row: InputRow, on_right: bool) -> u64
 
 // The states that the symbol's input rows name on a side: the rows in the symbol's chain.
 fn states_named(lists: &[u16], rows: &[u16], nexts: usize, symbol: Symbol, on_right: bool) -> u64
-    requires { ⌜ RowsIn (now rows) (now lists) nexts × (symbol .0 < 16) ⌝ }
+    requires { ⌜ RowsIn (now rows) (now lists) nexts × (symbol .0 < mostSymbols) ⌝ }
     ensures { λ r. ⌜ r ≡ statesSeen (now (rows .entry)) (symbol .0) «on_right» ⌝ }
 {
     let count = rows.len() / 4;
@@ -67,7 +75,7 @@ fn states_named(lists: &[u16], rows: &[u16], nexts: usize, symbol: Symbol, on_ri
 
 // The states that a symbol can see on a side.
 fn states_seen(prepared: Prepared, table: &[u16], symbol: Symbol, on_right: bool) -> u64
-    requires { ⌜ Ready prepared (now table) × (symbol .0 < 16) ⌝ }
+    requires { ⌜ Ready prepared (now table) × (symbol .0 < mostSymbols) ⌝ }
     ensures { λ r. ⌜ r ≡ statesSeen (contractIn prepared (now (table .entry)) .input .rows) (symbol .0) «on_right» ⌝ }
 {
     let counts = prepared.counts;
@@ -108,7 +116,7 @@ fn side_number(on_right: bool) -> u16
 fn put_call(
     output_states: usize,
     counts: &[u16],
-    offsets: &[u16; 16],
+    offsets: &[u16; PROCEDURES],
     on_right: bool,
     node: Node,
     mask: &mut [u64; 6],
@@ -136,7 +144,7 @@ fn no_facts() -> [u64; 6]
 fn facts_called(
     output_states: usize,
     counts: &[u16],
-    offsets: &[u16; 16],
+    offsets: &[u16; PROCEDURES],
     nodes: &[u16],
     list: &[u16],
     on_right: bool,
@@ -156,7 +164,7 @@ fn facts_called(
 
 // The facts that a symbol can see on a side.
 fn facts_seen(prepared: Prepared, table: &[u16], symbol: Symbol, on_right: bool) -> [u64; 6]
-    requires { ⌜ Ready prepared (now table) × (symbol .0 < 16) ⌝ }
+    requires { ⌜ Ready prepared (now table) × (symbol .0 < mostSymbols) ⌝ }
     ensures { λ r. ⌜ r ≡ factsSeen (contractIn prepared (now (table .entry))) (prepared .offsets) (listsIn prepared (now (table .entry))) (symbol .0) «on_right» ⌝ }
 {
     let layout = prepared.layout;
@@ -177,7 +185,7 @@ fn facts_seen(prepared: Prepared, table: &[u16], symbol: Symbol, on_right: bool)
 
 // What a symbol can see on a side.
 fn mask_of(prepared: Prepared, table: &[u16], symbol: Symbol, on_right: bool) -> [u64; 6]
-    requires { ⌜ Ready prepared (now table) × (symbol .0 < 16) ⌝ }
+    requires { ⌜ Ready prepared (now table) × (symbol .0 < mostSymbols) ⌝ }
     ensures { λ r. ⌜ Sees (contractIn prepared (now (table .entry))) (symbol .0) «on_right» (maskIn r 0) ⌝ }
 {
     let mut mask = facts_seen(prepared, table, symbol, on_right);
@@ -187,12 +195,12 @@ fn mask_of(prepared: Prepared, table: &[u16], symbol: Symbol, on_right: bool) ->
 
 // Puts the mask of a symbol among the masks.
 fn store_mask(masks: &mut [u64], symbol: Symbol, mask: &[u64; 6])
-    requires { ⌜ 5 * symbol .0 + 5 ≤ length (now masks) ⌝ }
+    requires { ⌜ maskWords * symbol .0 + maskWords ≤ length (now masks) ⌝ }
     ensures { λ _. ⌜ now (masks .exit) ≡ stored (now (masks .entry)) (symbol .0) (now (mask .entry)) ⌝ }
 {
-    let start = 5 * place(symbol.0);
+    let start = MASK_WORDS * place(symbol.0);
     let mut i: usize = 0;
-    while i < 5 {
+    while i < MASK_WORDS {
         masks[start + i] = mask[i];
         i += 1;
     }
@@ -200,7 +208,7 @@ fn store_mask(masks: &mut [u64], symbol: Symbol, mask: &[u64; 6])
 
 // The masks of all symbols on a side.
 fn side_masks(prepared: Prepared, table: &[u16], on_right: bool, masks: &mut [u64])
-    requires { ⌜ Ready prepared (now table) × (80 ≤ length (now masks)) ⌝ }
+    requires { ⌜ Ready prepared (now table) × (mostSymbols * maskWords ≤ length (now masks)) ⌝ }
     ensures { λ _. ⌜ AllSee (contractIn prepared (now (table .entry))) «on_right» (prepared .symbols) (now (masks .exit)) ⌝ }
 {
     let symbols = prepared.symbols;
@@ -213,7 +221,12 @@ fn side_masks(prepared: Prepared, table: &[u16], on_right: bool, masks: &mut [u6
 }
 
 // The masks of all symbols on both sides.
-pub fn masks_of(prepared: Prepared, table: &[u16], left: &mut [u64; 80], right: &mut [u64; 80])
+pub fn masks_of(
+    prepared: Prepared,
+    table: &[u16],
+    left: &mut [u64; MASKS],
+    right: &mut [u64; MASKS],
+)
     requires { ⌜ Ready prepared (now table) ⌝ }
     ensures { λ _. ⌜ Covered (contractIn prepared (now (table .entry))) (now (left .exit)) (now (right .exit)) ⌝ }
 {

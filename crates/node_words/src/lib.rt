@@ -16,6 +16,7 @@ use blocks::facts_from;
 use blocks::lane_of_ones;
 use blocks::widen;
 use lanes::Layout;
+use lanes::PROCEDURES;
 use lanes::at_state;
 use lanes::call_row;
 use lanes::call_two;
@@ -134,7 +135,7 @@ fn parameter_word(layout: Layout, name: u16) -> u64
 // The word of node n, from the words of the nodes that it refers to.
 fn node_word(
     layout: Layout,
-    offsets: &[u16; 16],
+    offsets: &[u16; PROCEDURES],
     counts: &[u16],
     table: &[u16],
     nodes: &[u16],
@@ -170,7 +171,7 @@ fn node_word(
 // The words of the nodes on a list, one after another.
 pub fn fill_words(
     layout: Layout,
-    offsets: &[u16; 16],
+    offsets: &[u16; PROCEDURES],
     counts: &[u16],
     table: &[u16],
     nodes: &[u16],

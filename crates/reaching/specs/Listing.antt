@@ -12,9 +12,10 @@ use lib.Seq.{getD-set-same, getD-set-other}
 use Rattle.foundation.specs.Tests.{choose}
 use Rattle.model.specs.Tables.{inputRow, inputRowCount, nodeCount, ruleAt, ruleCount}
 use Rattle.model.proofs.Laws.Established.{GoodNodes}
+use Rattle.kind_words.specs.Sizes.{mostSymbols, listLengths, firstRules, firstRows, nextRules, nextRows}
 use Rattle.kind_words.specs.Listed.{at, Before, ListOf, before-same, list-same}
 use Rattle.kind_words.specs.Chains.{chained-same}
-use Rattle.kind_words.specs.Kind.{listed, listLength, listOf, list-length, list-at, ListsFor, RulesChained}
+use Rattle.kind_words.specs.Kind.{listed, listLength, listOf, ListInside, withList, list-length, list-at, ListsFor, RulesChained}
 use Rattle.chains.specs.Chaining.{Chaining}
 use Rattle.reaching.specs.Marks.{Marked, counted, Closed, RulesMarked, RulesGood, first-smaller, second-smaller}
 
@@ -155,8 +156,8 @@ symbol-listed counts nodes rules s start ruleMarks marks before lists n good rul
     }
 
 -- a symbol without rules
-pub none-listed : (counts nodes rules : List ℕ) (s start : ℕ) (lists : List ℕ) → RulesChained rules lists → s < 16
-    → (getD lists (32 + s) 0 < ruleCount rules → ⊥)
+pub none-listed : (counts nodes rules : List ℕ) (s start : ℕ) (lists : List ℕ) → RulesChained rules lists → s < mostSymbols
+    → (getD lists (firstRules + s) 0 < ruleCount rules → ⊥)
     → SymbolListed counts nodes rules s start lists lists 0
 none-listed counts nodes rules s start lists chained small none =
     record {
@@ -174,19 +175,19 @@ counted-small mark = go (eqb mark 1)
     go true = omega arith
     go false = omega arith
 
--- the lists of the symbols below s, one after another from a place on; what stands before that place, from 32 on, is kept
+-- the lists of the symbols below s, one after another from a place on; what stands before that place, from the first rules on, is kept
 pub record ListedTo (counts nodes rules : List ℕ) (start s end : ℕ) (before lists : List ℕ) : Type 0 where
   pub long : length lists ≡ length before
   pub after : start ≤ end
-  pub room : end + (16 - s) * nodeCount nodes ≤ length before
+  pub room : end + (mostSymbols - s) * nodeCount nodes ≤ length before
   pub begins : (t : ℕ) → t < s → start ≤ getD lists t 0
   pub inside : (t : ℕ) → t < s → getD lists t 0 + listLength lists t ≤ end
   pub list : (t : ℕ) → t < s → ListOf counts nodes (listed lists t) (listLength lists t)
   pub onList : (r : ℕ) → r < ruleCount rules → ruleAt rules r .symbol < s
       → Before (listed lists (ruleAt rules r .symbol)) (listLength lists (ruleAt rules r .symbol)) (ruleAt rules r .node)
-  pub kept : (j : ℕ) → 32 ≤ j → j < start → getD lists j 0 ≡ getD before j 0
+  pub kept : (j : ℕ) → firstRules ≤ j → j < start → getD lists j 0 ≡ getD before j 0
 
-pub listed-none : (counts nodes rules : List ℕ) (start : ℕ) (lists : List ℕ) → start + 16 * nodeCount nodes ≤ length lists → ListedTo counts nodes rules start 0 start lists lists
+pub listed-none : (counts nodes rules : List ℕ) (start : ℕ) (lists : List ℕ) → start + mostSymbols * nodeCount nodes ≤ length lists → ListedTo counts nodes rules start 0 start lists lists
 listed-none counts nodes rules start lists room =
     record {
       long = refl;
@@ -199,39 +200,43 @@ listed-none counts nodes rules start lists room =
       kept = λ j l m. refl;
     }
 
+-- room for the lists of the symbols from s on is room for one and for the rest
+rest-room : (s end k room : ℕ) → s < mostSymbols → end + (mostSymbols - s) * k ≤ room → end + k + (mostSymbols - (s + 1)) * k ≤ room
+rest-room s end k room small h =
+    let e : mostSymbols - s ≡ suc (mostSymbols - (s + 1)) = omega arith in
+    let r : end + suc (mostSymbols - (s + 1)) * k ≤ room = rw e at h in
+    omega arith
+
 -- there is room for one more list
-pub list-room : (counts nodes rules : List ℕ) (start s end : ℕ) (before lists : List ℕ) → ListedTo counts nodes rules start s end before lists → s < 16
+pub list-room : (counts nodes rules : List ℕ) (start s end : ℕ) (before lists : List ℕ) → ListedTo counts nodes rules start s end before lists → s < mostSymbols
     → end + nodeCount nodes ≤ length lists
-list-room counts nodes rules start s end before lists h small =
-    let e : 16 - s ≡ suc (16 - (s + 1)) = omega arith in
-    let r : end + suc (16 - (s + 1)) * nodeCount nodes ≤ length before = rw e at (h .room) in
-    omega (arith, h .long)
+list-room counts nodes rules start s end before lists h small = omega (arith, rest-room s end (nodeCount nodes) (length before) small (h .room), h .long)
 
 -- one symbol more
 module _ (counts nodes rules : List ℕ) (start s end : ℕ) (before lists lists′ : List ℕ) (n : ℕ) (h : ListedTo counts nodes rules start s end before lists)
     (new : SymbolListed counts nodes rules s end lists lists′ n)
-    (small : s < 16)
-    (base : 64 ≤ start) where
+    (small : s < mostSymbols)
+    (base : nextRules ≤ start) where
   abbrev stored : List ℕ
-  stored = set (set lists′ s end) (16 + s) n
+  stored = withList lists′ s end n
 
   own-start : getD stored s 0 ≡ end
   own-start =
-      getD-set-other (set lists′ s end) (16 + s) s n 0 (λ e. omega arith)
+      getD-set-other (set lists′ s end) (listLengths + s) s n 0 (λ e. omega arith)
       ∙ getD-set-same lists′ s end 0 (omega (arith, new .long, h .long, h .after, h .room))
 
-  own-length : getD stored (16 + s) 0 ≡ n
-  own-length = getD-set-same (set lists′ s end) (16 + s) n 0 (omega (arith, length-set lists′ s end, new .long, h .long, h .after, h .room))
+  own-length : listLength stored s ≡ n
+  own-length = getD-set-same (set lists′ s end) (listLengths + s) n 0 (omega (arith, length-set lists′ s end, new .long, h .long, h .after, h .room))
 
   -- any other place below the new list
-  other : (j : ℕ) → j < end → (j ≡ s → ⊥) → (j ≡ 16 + s → ⊥) → getD stored j 0 ≡ getD lists j 0
-  other j l a b = getD-set-other (set lists′ s end) (16 + s) j n 0 b ∙ getD-set-other lists′ s j end 0 a ∙ new .kept j l
+  other : (j : ℕ) → j < end → (j ≡ s → ⊥) → (j ≡ listLengths + s → ⊥) → getD stored j 0 ≡ getD lists j 0
+  other j l a b = getD-set-other (set lists′ s end) (listLengths + s) j n 0 b ∙ getD-set-other lists′ s j end 0 a ∙ new .kept j l
 
   other-start : (t : ℕ) → t < s → getD stored t 0 ≡ getD lists t 0
   other-start t l = other t (omega (arith, h .after)) (λ e. omega arith) (λ e. omega arith)
 
   other-length : (t : ℕ) → t < s → listLength stored t ≡ listLength lists t
-  other-length t l = other (16 + t) (omega (arith, h .after)) (λ e. omega arith) (λ e. omega arith)
+  other-length t l = other (listLengths + t) (omega (arith, h .after)) (λ e. omega arith) (λ e. omega arith)
 
   other-listed : (t i : ℕ) → t < s → i < listLength lists t → listed stored t i ≡ listed lists t i
   other-listed t i l k =
@@ -241,20 +246,17 @@ module _ (counts nodes rules : List ℕ) (start s end : ℕ) (before lists lists
   own-listed : (i : ℕ) → listed stored s i ≡ from lists′ end i
   own-listed i =
       ap (λ (x : ℕ). getD stored (x + i) 0) own-start
-      ∙ getD-set-other (set lists′ s end) (16 + s) (end + i) n 0 (λ e. omega (arith, h .after))
+      ∙ getD-set-other (set lists′ s end) (listLengths + s) (end + i) n 0 (λ e. omega (arith, h .after))
       ∙ getD-set-other lists′ s (end + i) end 0 (λ e. omega (arith, h .after))
 
-  room-left : end + n + (16 - (s + 1)) * nodeCount nodes ≤ length before
-  room-left =
-      let e : 16 - s ≡ suc (16 - (s + 1)) = omega arith in
-      let r : end + suc (16 - (s + 1)) * nodeCount nodes ≤ length before = rw e at (h .room) in
-      omega (arith, new .few)
+  room-left : end + n + (mostSymbols - (s + 1)) * nodeCount nodes ≤ length before
+  room-left = omega (arith, rest-room s end (nodeCount nodes) (length before) small (h .room), new .few)
 
   pub listed-more : (table : List ℕ) → table ≡ stored → ListedTo counts nodes rules start (s + 1) (end + n) before table
   listed-more table e =
       rw e
       (record {
-        long = length-set (set lists′ s end) (16 + s) n ∙ length-set lists′ s end ∙ new .long ∙ h .long;
+        long = length-set (set lists′ s end) (listLengths + s) n ∙ length-set lists′ s end ∙ new .long ∙ h .long;
         after = omega (arith, h .after);
         room = room-left;
         begins = λ t l. from-at t l (ℕ-discrete t s);
@@ -296,34 +298,34 @@ module _ (counts nodes rules : List ℕ) (start s end : ℕ) (before lists lists
 
 -- the rules' chains stand
 pub rules-kept : (counts nodes rules : List ℕ) (start s end : ℕ) (before lists : List ℕ) → ListedTo counts nodes rules start s end before lists
-    → 64 + ruleCount rules ≤ start
+    → nextRows rules ≤ start
     → RulesChained rules before
     → RulesChained rules lists
 rules-kept counts nodes rules start s end before lists h base chained =
-    chained-same _ _ 32 64 0 before lists
-    (record { first = λ t l. h .kept (32 + t) (omega arith) (omega arith); next = λ r l. h .kept (64 + r) (omega arith) (omega arith) })
+    chained-same _ _ firstRules nextRules 0 before lists
+    (record { first = λ t l. h .kept (firstRules + t) (omega arith) (omega arith); next = λ r l. h .kept (nextRules + r) (omega arith) (omega arith) })
     chained
 
 -- also under the chains of the input rows
-pub rules-through : (rules rows : List ℕ) (from : ℕ) (before ofRules ofRows : List ℕ) → from ≡ 64 + ruleCount rules
-    → Chaining (λ r. ruleAt rules r .symbol) (ruleCount rules) 32 64 0 before ofRules
-    → Chaining (λ r. inputRow rows r .symbol) (inputRowCount rows) 48 from 0 ofRules ofRows
+pub rules-through : (rules rows : List ℕ) (from : ℕ) (before ofRules ofRows : List ℕ) → from ≡ nextRows rules
+    → Chaining (λ r. ruleAt rules r .symbol) (ruleCount rules) firstRules nextRules 0 before ofRules
+    → Chaining (λ r. inputRow rows r .symbol) (inputRowCount rows) firstRows from 0 ofRules ofRows
     → RulesChained rules ofRows
 rules-through rules rows from before ofRules ofRows e a b =
-    chained-same _ _ 32 64 0 ofRules ofRows
+    chained-same _ _ firstRules nextRules 0 ofRules ofRows
     (record {
-      first = λ t l. b .kept (32 + t) (record { notFirst = λ s m q. omega arith; notNext = λ r m q. omega arith });
-      next = λ r l. b .kept (64 + r) (record { notFirst = λ s m q. omega arith; notNext = λ i m q. omega arith });
+      first = λ t l. b .kept (firstRules + t) (record { notFirst = λ s m q. omega arith; notNext = λ r m q. omega arith });
+      next = λ r l. b .kept (nextRules + r) (record { notFirst = λ s m q. omega arith; notNext = λ i m q. omega arith });
     })
     (a .chained)
 
 -- all sixteen, after the chains of rules and of input rows
 pub listed-all : (counts nodes rules rows : List ℕ) (start end from : ℕ) (before ofRules ofRows lists : List ℕ) → RulesGood nodes rules
-    → from ≡ 64 + ruleCount rules
-    → start ≡ 64 + ruleCount rules + inputRowCount rows
-    → Chaining (λ r. ruleAt rules r .symbol) (ruleCount rules) 32 64 0 before ofRules
-    → Chaining (λ r. inputRow rows r .symbol) (inputRowCount rows) 48 from 0 ofRules ofRows
-    → ListedTo counts nodes rules start 16 end ofRows lists
+    → from ≡ nextRows rules
+    → start ≡ nextRows rules + inputRowCount rows
+    → Chaining (λ r. ruleAt rules r .symbol) (ruleCount rules) firstRules nextRules 0 before ofRules
+    → Chaining (λ r. inputRow rows r .symbol) (inputRowCount rows) firstRows from 0 ofRules ofRows
+    → ListedTo counts nodes rules start mostSymbols end ofRows lists
     → ListsFor counts nodes rules rows lists
 listed-all counts nodes rules rows start end from before ofRules ofRows lists good ef es rulesChained rowsChained h =
     record {
@@ -334,16 +336,16 @@ listed-all counts nodes rules rows start end from before ofRules ofRows lists go
           rw (list-length lists s own) (list-same (listed lists s) (at (listOf lists s)) (listLength lists s) (list-at lists s own) counts nodes (h .list s l));
       onList = λ r l.
           let s : ℕ = ruleAt rules r .symbol in
-          let k : s < 16 = good .symbol r l in
+          let k : s < mostSymbols = good .symbol r l in
           let own = within s k in
           rw (list-length lists s own)
           (before-same (listed lists s) (at (listOf lists s)) (listLength lists s) (list-at lists s own) (listLength lists s) (ruleAt rules r .node) (omega arith) (h .onList r l k));
-      ofRules = rules-kept counts nodes rules start 16 end ofRows lists h (omega arith) (rules-through rules rows from before ofRules ofRows ef rulesChained rowsChained);
+      ofRules = rules-kept counts nodes rules start mostSymbols end ofRows lists h (omega arith) (rules-through rules rows from before ofRules ofRows ef rulesChained rowsChained);
       ofRows =
-          chained-same _ _ 48 (64 + ruleCount rules) 0 ofRows lists
-          (record { first = λ t l. h .kept (48 + t) (omega arith) (omega arith); next = λ r l. h .kept (64 + ruleCount rules + r) (omega arith) (omega arith) })
+          chained-same _ _ firstRows (nextRows rules) 0 ofRows lists
+          (record { first = λ t l. h .kept (firstRows + t) (omega arith) (omega arith); next = λ r l. h .kept (nextRows rules + r) (omega arith) (omega arith) })
           (rw (← ef) (rowsChained .chained));
     }
   where
-    within : (s : ℕ) → s < 16 → getD lists s 0 + listLength lists s ≤ length lists
+    within : (s : ℕ) → s < mostSymbols → ListInside lists s
     within s l = omega (arith, h .inside s l, h .room, h .long)

@@ -3,23 +3,32 @@
 ghost use mathlib.Core.Path.{_≡_};
 ghost use mathlib.Core.Bool.{true};
 ghost use Prim.Native.Nat.{ℕ, _+_, _*_, _/_, _<_, _≤_};
-ghost use lib.ListN.{length, getD, set};
+ghost use lib.ListN.{length, getD};
 ghost use lib.Dec.{ltb};
 ghost use Rattle.model.specs.Tables.{inputRowCount, nodeCount, ruleAt, ruleCount};
 ghost use Rattle.model.proofs.Laws.Established.{GoodNodes};
+ghost use Rattle.kind_words.specs.Sizes.{mostSymbols, mostRows, mostNodes, mostRules, firstRules, nextRules, nextRows};
 ghost use Rattle.kind_words.specs.Kind.{ListsFor, RulesChained, listsLength};
 ghost use Rattle.reaching.specs.Marks.{markedIf, referredMarked, Closed, RulesMarked, counted, RulesGood, RowsGood};
 ghost use Rattle.reaching.specs.Listing.{Listing, SymbolListed, ListedTo};
+use chains::LISTS;
 use chains::chain_rows;
 use chains::chain_rules;
 use chains::first_rule;
 use chains::rows_from;
 use chains::rule_after;
+use chains::store_list;
+use lanes::NODES;
+use lanes::SYMBOLS;
+use lanes::entry_of;
 use lanes::place;
 use tables::Symbol;
 use tables::node_at;
 use tables::reference_count;
 use tables::rule_at;
+
+// A contract of few nodes has a small room for marks, so that little is cleared.
+const FEW_NODES: usize = 16;
 
 // Marks node n, where it is used.
 fn mark(marks: &mut [u16], used: bool, n: u16)
@@ -67,7 +76,7 @@ fn mark_rule(rules: &[u16], marks: &mut [u16], r: usize)
 
 // Marks the nodes of the rules for the symbol: the rules in the symbol's chain.
 fn mark_rules(rules: &[u16], lists: &[u16], symbol: Symbol, marks: &mut [u16])
-    requires { ⌜ ((r : ℕ) → r < ruleCount (now rules) → ruleAt (now rules) r .node < length (now marks)) × RulesChained (now rules) (now lists) × (64 + ruleCount (now rules) ≤ length (now lists)) × (symbol .0 < 16) ⌝ }
+    requires { ⌜ ((r : ℕ) → r < ruleCount (now rules) → ruleAt (now rules) r .node < length (now marks)) × RulesChained (now rules) (now lists) × (nextRows (now rules) ≤ length (now lists)) × (symbol .0 < mostSymbols) ⌝ }
     ensures { λ _. ⌜ RulesMarked (now (rules .entry)) (symbol .0) (ruleCount (now (rules .entry))) (now (marks .exit)) ⌝ }
 {
     let n = rules.len() / 3;
@@ -88,17 +97,9 @@ fn count_mark(mark: u16) -> usize
     0
 }
 
-// A number as a table entry.
-fn entry_of(n: usize) -> u16
-    requires { ⌜ n < 65536 ⌝ }
-    ensures { λ r. ⌜ r ≡ n ⌝ }
-{
-    n as u16
-}
-
 // Lists the marked nodes below `count` from a place on, and returns how many they are.
 fn list_marked(marks: &[u16], count: usize, lists: &mut [u16], start: usize) -> usize
-    requires { ⌜ (count ≤ 256) × (count ≤ length (now marks)) × (start + count ≤ length (now lists)) ⌝ }
+    requires { ⌜ (count ≤ mostNodes) × (count ≤ length (now marks)) × (start + count ≤ length (now lists)) ⌝ }
     ensures { λ r. ⌜ Listing (now (marks .entry)) (now (lists .entry)) (now (lists .exit)) start count r ⌝ }
 {
     let mut listed: usize = 0;
@@ -113,8 +114,8 @@ fn list_marked(marks: &[u16], count: usize, lists: &mut [u16], start: usize) -> 
 
 // Whether there is a rule for the symbol.
 fn has_rules(rules: &[u16], lists: &[u16], symbol: Symbol) -> bool
-    requires { ⌜ (symbol .0 < 16) × (64 ≤ length (now lists)) ⌝ }
-    ensures { λ r. ⌜ r ≡ ltb (getD (now (lists .entry)) (32 + symbol .0) 0) (ruleCount (now (rules .entry))) ⌝ }
+    requires { ⌜ (symbol .0 < mostSymbols) × (nextRules ≤ length (now lists)) ⌝ }
+    ensures { λ r. ⌜ r ≡ ltb (getD (now (lists .entry)) (firstRules + symbol .0) 0) (ruleCount (now (rules .entry))) ⌝ }
 {
     first_rule(lists, symbol) < rules.len() / 3
 }
@@ -129,7 +130,7 @@ fn list_reached(
     lists: &mut [u16],
     start: usize,
 ) -> usize
-    requires { ⌜ GoodNodes (now counts) (now nodes) × RulesGood (now nodes) (now rules) × (symbol .0 < 16) × RulesChained (now rules) (now lists) × (64 + ruleCount (now rules) ≤ start) × (start + nodeCount (now nodes) ≤ length (now lists)) × (nodeCount (now nodes) ≤ length (now marks)) ⌝ }
+    requires { ⌜ GoodNodes (now counts) (now nodes) × RulesGood (now nodes) (now rules) × (symbol .0 < mostSymbols) × RulesChained (now rules) (now lists) × (nextRows (now rules) ≤ start) × (start + nodeCount (now nodes) ≤ length (now lists)) × (nodeCount (now nodes) ≤ length (now marks)) ⌝ }
     ensures { λ r. ⌜ SymbolListed (now (counts .entry)) (now (nodes .entry)) (now (rules .entry)) (symbol .0) start (now (lists .entry)) (now (lists .exit)) r ⌝ }
 {
     mark_rules(rules, lists, symbol, marks);
@@ -137,8 +138,8 @@ fn list_reached(
     list_marked(marks, nodes.len() / 5, lists, start)
 }
 
-// Lists the nodes that the rules for a symbol reach, and returns how many they are. There is room for the marks of sixteen
-// nodes or of as many as there may be.
+// Lists the nodes that the rules for a symbol reach, and returns how many they are. There is room for the marks of few nodes
+// or of as many as there may be.
 fn list_symbol(
     counts: &[u16],
     nodes: &[u16],
@@ -147,28 +148,18 @@ fn list_symbol(
     lists: &mut [u16],
     start: usize,
 ) -> usize
-    requires { ⌜ GoodNodes (now counts) (now nodes) × RulesGood (now nodes) (now rules) × (symbol .0 < 16) × RulesChained (now rules) (now lists) × (64 + ruleCount (now rules) ≤ start) × (start + nodeCount (now nodes) ≤ length (now lists)) ⌝ }
+    requires { ⌜ GoodNodes (now counts) (now nodes) × RulesGood (now nodes) (now rules) × (symbol .0 < mostSymbols) × RulesChained (now rules) (now lists) × (nextRows (now rules) ≤ start) × (start + nodeCount (now nodes) ≤ length (now lists)) ⌝ }
     ensures { λ r. ⌜ SymbolListed (now (counts .entry)) (now (nodes .entry)) (now (rules .entry)) (symbol .0) start (now (lists .entry)) (now (lists .exit)) r ⌝ }
 {
     if has_rules(rules, lists, symbol) {
-        if nodes.len() <= 80 {
-            let mut marks = [0u16; 16];
+        if nodes.len() / 5 <= FEW_NODES {
+            let mut marks = [0u16; FEW_NODES];
             return list_reached(counts, nodes, rules, symbol, &mut marks, lists, start);
         }
-        let mut marks = [0u16; 256];
+        let mut marks = [0u16; NODES];
         return list_reached(counts, nodes, rules, symbol, &mut marks, lists, start);
     }
     0
-}
-
-// Keeps where the list of a symbol starts and how long it is.
-fn store_list(lists: &mut [u16], symbol: Symbol, start: usize, count: usize)
-    requires { ⌜ (symbol .0 < 16) × (32 ≤ length (now lists)) × (start < 65536) × (count < 65536) ⌝ }
-    ensures { λ _. ⌜ now (lists .exit) ≡ set (set (now (lists .entry)) (symbol .0) start) (16 + symbol .0) count ⌝ }
-{
-    let s = place(symbol.0);
-    lists[s] = entry_of(start);
-    lists[16 + s] = entry_of(count);
 }
 
 // Lists the nodes that each symbol's rules reach, one list after another from a place on, and returns where they end.
@@ -179,12 +170,12 @@ fn list_nodes(
     lists: &mut [u16],
     start: usize,
 ) -> usize
-    requires { ⌜ GoodNodes (now counts) (now nodes) × RulesGood (now nodes) (now rules) × RulesChained (now rules) (now lists) × (64 + ruleCount (now rules) ≤ start) × (start + 16 * nodeCount (now nodes) ≤ length (now lists)) × (length (now lists) < 65536) ⌝ }
-    ensures { λ r. ⌜ ListedTo (now (counts .entry)) (now (nodes .entry)) (now (rules .entry)) start 16 r (now (lists .entry)) (now (lists .exit)) ⌝ }
+    requires { ⌜ GoodNodes (now counts) (now nodes) × RulesGood (now nodes) (now rules) × RulesChained (now rules) (now lists) × (nextRows (now rules) ≤ start) × (start + mostSymbols * nodeCount (now nodes) ≤ length (now lists)) × (length (now lists) < 65536) ⌝ }
+    ensures { λ r. ⌜ ListedTo (now (counts .entry)) (now (nodes .entry)) (now (rules .entry)) start mostSymbols r (now (lists .entry)) (now (lists .exit)) ⌝ }
 {
     let mut end: usize = start;
     let mut s: u16 = 0;
-    while s < 16 {
+    while place(s) < SYMBOLS {
         let count = list_symbol(counts, nodes, rules, Symbol(s), lists, end);
         store_list(lists, Symbol(s), end, count);
         end += count;
@@ -195,23 +186,23 @@ fn list_nodes(
 
 // From where on the table of lists has the nodes.
 fn nodes_from(rules: &[u16], rows: &[u16]) -> usize
-    requires { ⌜ (ruleCount (now rules) ≤ 256) × (inputRowCount (now rows) ≤ 512) ⌝ }
-    ensures { λ r. ⌜ r ≡ 64 + ruleCount (now (rules .entry)) + inputRowCount (now (rows .entry)) ⌝ }
+    requires { ⌜ (ruleCount (now rules) ≤ mostRules) × (inputRowCount (now rows) ≤ mostRows) ⌝ }
+    ensures { λ r. ⌜ r ≡ nextRows (now (rules .entry)) + inputRowCount (now (rows .entry)) ⌝ }
 {
     rows_from(rules) + rows.len() / 4
 }
 
 // How many numbers the table of lists takes at most.
 pub fn lists_length(rows: &[u16], nodes: &[u16], rules: &[u16]) -> usize
-    requires { ⌜ (inputRowCount (now rows) ≤ 512) × (nodeCount (now nodes) ≤ 256) × (ruleCount (now rules) ≤ 256) ⌝ }
+    requires { ⌜ (inputRowCount (now rows) ≤ mostRows) × (nodeCount (now nodes) ≤ mostNodes) × (ruleCount (now rules) ≤ mostRules) ⌝ }
     ensures { λ r. ⌜ r ≡ listsLength (now (rows .entry)) (now (nodes .entry)) (now (rules .entry)) ⌝ }
 {
-    nodes_from(rules, rows) + 16 * (nodes.len() / 5)
+    nodes_from(rules, rows) + SYMBOLS * (nodes.len() / 5)
 }
 
 // Room for the table of lists of every contract; in a function of its own, so that proofs see its length alone.
-pub fn most_lists() -> [u16; 4928] {
-    [0u16; 4928]
+pub fn most_lists() -> [u16; LISTS] {
+    [0u16; LISTS]
 }
 
 // Fills the table of lists.

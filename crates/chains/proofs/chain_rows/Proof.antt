@@ -4,13 +4,14 @@ use Prim.Native.Nat.{ℕ, _+_, _-_, _/_, _≤_}
 use native.Mathlib.Omega.{arith}
 use lib.ListN.{length}
 use Rattle.model.specs.Tables
+use Rattle.kind_words.specs.Sizes.{firstRows}
 use Rattle.chains.specs.Chaining.{Chaining, chaining-none, chaining-more, chaining-all}
 use Rattle.chains.proofs.chain_rows.Statement.{statement}
 use Rattle.chains.proofs.chain_rows.Tie as tie
 
 abbrev Inv-loop : tie.InvT-loop
 Inv-loop rows nexts lists₀ n r₀ lists r =
-    (n ≡ length rows / 4) × (r ≤ n) × Chaining (λ i. Tables.inputRow rows i .symbol) (Tables.inputRowCount rows) 48 nexts r lists₀ lists
+    (n ≡ length rows / 4) × (r ≤ n) × Chaining (λ i. Tables.inputRow rows i .symbol) (Tables.inputRowCount rows) firstRows nexts r lists₀ lists
 
 abbrev μ-loop : tie.MeasureT-loop
 μ-loop rows nexts lists₀ n r₀ lists r = r
@@ -42,7 +43,7 @@ loop-again c =
     let loop = c .before .before .before .before .before .before .loop in
     let e = ap (λ (x : Tables.InputRow). x .symbol) (c .before .before .before .before .input-row-at .ensures) in
     let back : loop .r ≡ loop .r - 1 + 1 = omega arith in
-    let before = subst (λ (x : ℕ). Chaining (λ i. Tables.inputRow (args .rows .now) i .symbol) (Tables.inputRowCount (args .rows .now)) 48 (args .nexts) x (c .before .before .before .before .before .before .before .before .before .no-numbers .last .0) (loop .lists)) back (loop .inv .2) in
+    let before = subst (λ (x : ℕ). Chaining (λ i. Tables.inputRow (args .rows .now) i .symbol) (Tables.inputRowCount (args .rows .now)) firstRows (args .nexts) x (c .before .before .before .before .before .before .before .before .before .no-numbers .last .0) (loop .lists)) back (loop .inv .2) in
     (loop .inv .0, omega arith, chaining-more _ _ _ _ (loop .r - 1) _ _ (loop .lists) _ before (omega arith) (sym e) (rw e (c .before .before .before .before .before .before .before .before .before .before .before .before .before .pre .0 (loop .r - 1) (omega arith))) (omega (arith, c .before .before .before .before .before .before .before .before .before .before .before .before .before .pre .2, c .before .before .before .before .before .before .before .before .before .before .before .before .before .pre .3)) (omega (arith, c .before .before .before .before .before .before .before .before .before .before .before .before .before .pre .2, c .before .before .before .before .before .before .before .before .before .before .before .before .before .pre .3, c .before .before .before .before .before .before .before .before .before .no-numbers .ensures .long)) (c .before .before .link .ensures))
 
 same-length : tie.Need-same-length Inv-loop μ-loop
@@ -54,7 +55,7 @@ returns c =
     let loop = c .before .loop in
     let e : loop .r ≡ 0 = omega arith in
     chaining-all _ _ _ _ _ _ _ (c .before .before .before .before .no-numbers .ensures)
-    (subst (λ (x : ℕ). Chaining (λ i. Tables.inputRow (args .rows .now) i .symbol) (Tables.inputRowCount (args .rows .now)) 48 (args .nexts) x (c .before .before .before .before .no-numbers .last .0) (loop .lists)) e (loop .inv .2))
+    (subst (λ (x : ℕ). Chaining (λ i. Tables.inputRow (args .rows .now) i .symbol) (Tables.inputRowCount (args .rows .now)) firstRows (args .nexts) x (c .before .before .before .before .no-numbers .last .0) (loop .lists)) e (loop .inv .2))
 
 pub chain-rows-spec : {M : Type 1} → statement M
 chain-rows-spec =

@@ -4,13 +4,14 @@ use Prim.Native.Nat.{ℕ, _+_, _-_, _/_, _≤_}
 use native.Mathlib.Omega.{arith}
 use lib.ListN.{length}
 use Rattle.model.specs.Tables
+use Rattle.kind_words.specs.Sizes.{firstRules, nextRules}
 use Rattle.chains.specs.Chaining.{Chaining, chaining-none, chaining-more, chaining-all}
 use Rattle.chains.proofs.chain_rules.Statement.{statement}
 use Rattle.chains.proofs.chain_rules.Tie as tie
 
 abbrev Inv-loop : tie.InvT-loop
 Inv-loop rules lists₀ n r₀ lists r =
-    (n ≡ length rules / 3) × (r ≤ n) × Chaining (λ i. Tables.ruleAt rules i .symbol) (Tables.ruleCount rules) 32 64 r lists₀ lists
+    (n ≡ length rules / 3) × (r ≤ n) × Chaining (λ i. Tables.ruleAt rules i .symbol) (Tables.ruleCount rules) firstRules nextRules r lists₀ lists
 
 abbrev μ-loop : tie.MeasureT-loop
 μ-loop rules lists₀ n r₀ lists r = r
@@ -42,7 +43,7 @@ loop-again c =
     let loop = c .before .before .before .before .before .before .loop in
     let e = ap (λ (x : Tables.Rule). x .symbol) (c .before .before .before .before .rule-at .ensures) in
     let back : loop .r ≡ loop .r - 1 + 1 = omega arith in
-    let before = subst (λ (x : ℕ). Chaining (λ i. Tables.ruleAt (args .rules .now) i .symbol) (Tables.ruleCount (args .rules .now)) 32 64 x (c .before .before .before .before .before .before .before .before .before .no-numbers .last .0) (loop .lists)) back (loop .inv .2) in
+    let before = subst (λ (x : ℕ). Chaining (λ i. Tables.ruleAt (args .rules .now) i .symbol) (Tables.ruleCount (args .rules .now)) firstRules nextRules x (c .before .before .before .before .before .before .before .before .before .no-numbers .last .0) (loop .lists)) back (loop .inv .2) in
     (loop .inv .0, omega arith, chaining-more _ _ _ _ (loop .r - 1) _ _ (loop .lists) _ before (omega arith) (sym e) (rw e (c .before .before .before .before .before .before .before .before .before .before .before .before .before .pre .0 (loop .r - 1) (omega arith))) (omega (arith, c .before .before .before .before .before .before .before .before .before .before .before .before .before .pre .2)) (omega (arith, c .before .before .before .before .before .before .before .before .before .before .before .before .before .pre .2, c .before .before .before .before .before .before .before .before .before .no-numbers .ensures .long)) (c .before .before .link .ensures))
 
 same-length : tie.Need-same-length Inv-loop μ-loop
@@ -54,7 +55,7 @@ returns c =
     let loop = c .before .loop in
     let e : loop .r ≡ 0 = omega arith in
     chaining-all _ _ _ _ _ _ _ (c .before .before .before .before .no-numbers .ensures)
-    (subst (λ (x : ℕ). Chaining (λ i. Tables.ruleAt (args .rules .now) i .symbol) (Tables.ruleCount (args .rules .now)) 32 64 x (c .before .before .before .before .no-numbers .last .0) (loop .lists)) e (loop .inv .2))
+    (subst (λ (x : ℕ). Chaining (λ i. Tables.ruleAt (args .rules .now) i .symbol) (Tables.ruleCount (args .rules .now)) firstRules nextRules x (c .before .before .before .before .no-numbers .last .0) (loop .lists)) e (loop .inv .2))
 
 pub chain-rules-spec : {M : Type 1} → statement M
 chain-rules-spec =

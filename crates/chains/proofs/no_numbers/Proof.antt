@@ -2,18 +2,19 @@
 use mathlib.Core.Path.{_≡_, subst}
 use Prim.Native.Nat.{ℕ, _-_, _≤_}
 use native.Mathlib.Omega.{arith}
+use Rattle.kind_words.specs.Sizes.{mostSymbols}
 use Rattle.chains.specs.Chaining.{Emptied, emptied-none, emptied-more}
 use Rattle.chains.proofs.no_numbers.Statement.{statement}
 use Rattle.chains.proofs.no_numbers.Tie as tie
 
 abbrev Inv-loop : tie.InvT-loop
-Inv-loop lists₀ firsts n entry s₀ lists s = (s ≤ 16) × Emptied firsts n s lists₀ lists
+Inv-loop lists₀ firsts n entry s₀ lists s = (s ≤ mostSymbols) × Emptied firsts n s lists₀ lists
 
 abbrev μ-loop : tie.MeasureT-loop
-μ-loop lists₀ firsts n entry s₀ lists s = 16 - s
+μ-loop lists₀ firsts n entry s₀ lists s = mostSymbols - s
 
 entry-of-requires : tie.Need-entry-of-requires Inv-loop μ-loop
-entry-of-requires c κs = c .before .pre .1
+entry-of-requires c κs = omega (arith, c .before .pre .1)
 
 loop-holds : tie.Need-loop-holds Inv-loop μ-loop
 loop-holds c = (omega arith, emptied-none _ _ _)
@@ -41,7 +42,7 @@ same-length c = c .before .loop .inv .1 .long
 
 returns : tie.Need-returns Inv-loop μ-loop
 returns c =
-    let e : c .before .loop .s ≡ 16 = omega arith in
+    let e : c .before .loop .s ≡ mostSymbols = omega arith in
     subst (λ (x : ℕ). Emptied (c .before .before .before .before .args .firsts) (c .before .before .before .before .args .n) x (c .before .before .before .before .args .lists .now) (c .before .loop .lists)) e (c .before .loop .inv .1)
 
 pub no-numbers-spec : {M : Type 1} → statement M

@@ -5,11 +5,12 @@ use native.Mathlib.Omega.{arith}
 use lib.ListN.{length, getD, length-set}
 use Rattle.model.specs.Facts.{offset}
 use Rattle.foundation.specs.Lists.{filled-more}
+use Rattle.kind_words.specs.Sizes.{mostProcedures}
 use Rattle.layouts.proofs.offsets_of.Statement.{statement}
 use Rattle.layouts.proofs.offsets_of.Tie as tie
 
 abbrev Inv-loop : tie.InvT-loop
-Inv-loop states counts offsets₀ p₀ offsets p = (p ≤ length counts) × (length offsets ≡ 16) × ((i : ℕ) → i < p → getD offsets i 0 ≡ offset states counts i)
+Inv-loop states counts offsets₀ p₀ offsets p = (p ≤ length counts) × (length offsets ≡ mostProcedures) × ((i : ℕ) → i < p → getD offsets i 0 ≡ offset states counts i)
 
 abbrev μ-loop : tie.MeasureT-loop
 μ-loop states counts offsets₀ p₀ offsets p = length counts - p

@@ -6,6 +6,7 @@ use lib.ListN.{getD}
 use borrow.Author.Needs.{needs}
 use borrow.Author.Tests.{ltb-false}
 use Rattle.model.specs.Tables
+use Rattle.kind_words.specs.Sizes.{firstRules}
 use Rattle.reaching.specs.Listing.{none-listed}
 use Rattle.reaching.proofs.list_symbol.Statement.{statement}
 use Rattle.reaching.proofs.list_symbol.Tie as tie
@@ -44,7 +45,7 @@ returns-3 : tie.Need-returns-3
 returns-3 c =
     let pre = c .before .before .before .before .before .before .before .pre in
     none-listed _ _ _ (c .before .before .before .before .before .before .before .args .symbol .0) (c .before .before .before .before .before .before .before .args .start) _ (pre .3) (pre .2)
-    (λ l. omega (arith, ltb-false (getD (c .before .before .before .before .before .before .before .args .lists .now) (32 + c .before .before .before .before .before .before .before .args .symbol .0) 0) (Tables.ruleCount (c .before .before .before .before .before .before .before .args .rules .now)) (sym (c .before .has-rules .ensures) ∙ c .if1 .left)))
+    (λ l. omega (arith, ltb-false (getD (c .before .before .before .before .before .before .before .args .lists .now) (firstRules + c .before .before .before .before .before .before .before .args .symbol .0) 0) (Tables.ruleCount (c .before .before .before .before .before .before .before .args .rules .now)) (sym (c .before .has-rules .ensures) ∙ c .if1 .left)))
 
 pub list-symbol-spec : {M : Type 1} → statement M
 list-symbol-spec =

@@ -2,8 +2,8 @@
 use native.Mathlib.Omega.{arith}
 use lib.ListN.{length-set}
 use borrow.Author.Needs.{needs}
-use Rattle.reaching.proofs.store_list.Statement.{statement}
-use Rattle.reaching.proofs.store_list.Tie as tie
+use Rattle.chains.proofs.store_list.Statement.{statement}
+use Rattle.chains.proofs.store_list.Tie as tie
 
 place-requires : tie.Need-place-requires
 place-requires c κs = search needs
