@@ -1,5 +1,5 @@
 -- What the loops' functions need where they stand: room in the buffers, and what a visit comes to.
-use mathlib.Core.Path.{_≡_, ap₂, _∙_}
+use mathlib.Core.Path.{_≡_, ap₂, subst, _∙_}
 use mathlib.Core.List.{List, [], _∷_, _++_}
 use Prim.Native.Nat.{ℕ, zero, suc, _+_, _*_, _^_, _≤_, _<_}
 use native.Mathlib.Omega.{arith}
@@ -69,6 +69,12 @@ module _ {C : Contract} {r : Round} {lefts rights : List ℕ} {s i j n : ℕ} {r
       visit C at hS hi hj known v verdicts kind
       (ek ∙ ap₂ (λ (x : List ℕ) (y : List ℕ). nextKind C s (take 5 x) (take 5 y) ++ (0 ∷ [])) el er)
       p rows′ words′ b
+
+-- the loops stand at the same right row under another name
+pub at-right : {C : Contract} {r : Round} {lefts rights : List ℕ} {s i j n : ℕ} {rows words : List ℕ} (k : ℕ) → j ≡ k
+    → At C r lefts rights s i j n rows words → At C r lefts rights s i k n rows words
+at-right {C} {r} {lefts} {rights} {s} {i} {n = n} {rows = rows} {words = words} k e at =
+    subst (λ (x : ℕ). At C r lefts rights s i x n rows words) e at
 
 -- buffers keep their lengths
 pub at-lengths : (C : Contract) (r : Round) (lefts rights : List ℕ) (s i j : ℕ) (rows words : List ℕ) (p : Progress)

@@ -64,7 +64,7 @@ fn visit_pair(
     )
 }
 
-// The right rows from the place on, those that are the first of their class.
+// The pairs of a left row: the right row at the place, and after it those that are the first of their class.
 fn right_rows(
     prepared: Prepared,
     table: &[u16],
@@ -83,7 +83,7 @@ fn right_rows(
     let symbol = place.symbol;
     let stood = round.stood;
     let mut total: usize = place.count;
-    let mut right: usize = next_marked(rights, symbol, place.right, stood);
+    let mut right: usize = place.right;
     while right < stood {
         let here = Place {
             symbol: symbol,
@@ -122,7 +122,7 @@ fn first_right(left: usize, before: usize) -> usize
     0
 }
 
-// The left rows from the place on, those that are the first of their class.
+// The pairs of a symbol: the left row at the place, and after it those that are the first of their class.
 pub fn left_rows(
     prepared: Prepared,
     table: &[u16],
@@ -141,12 +141,12 @@ pub fn left_rows(
     let symbol = place.symbol;
     let stood = round.stood;
     let mut total: usize = place.count;
-    let mut left: usize = next_marked(lefts, symbol, place.left, stood);
+    let mut left: usize = place.left;
     while left < stood {
         let here = Place {
             symbol: symbol,
             left: left,
-            right: first_right(left, round.before),
+            right: next_marked(rights, symbol, first_right(left, round.before), stood),
             count: total,
         };
         let step = right_rows(

@@ -16,6 +16,7 @@ use round_pairs::Place;
 use round_pairs::Round;
 use round_pairs::left_rows;
 use row_marks::mark_rows;
+use row_marks::next_marked;
 use row_marks::symbol_of;
 use tables::Symbol;
 
@@ -35,12 +36,14 @@ fn one_round(
     ensures { λ r. ⌜ Comes prepared (now (table .entry)) round (now (lefts .entry)) (now (rights .entry)) (prepared .symbols) 0 0 (now (rows .exit)) (now (words .exit)) r ⌝ }
 {
     let symbols = prepared.symbols;
-    let mut total: usize = round.stood;
+    let stood = round.stood;
+    let mut total: usize = stood;
     let mut number: usize = 1;
     while number < symbols {
+        let symbol = symbol_of(number);
         let here = Place {
-            symbol: symbol_of(number),
-            left: 0,
+            symbol: symbol,
+            left: next_marked(lefts, symbol, 0, stood),
             right: 0,
             count: total,
         };

@@ -1,12 +1,12 @@
--- Invariant: the loops stand at the next left row that is marked. Measure: the left rows left.
+-- Invariant: the loops stand at a left row. Measure: the left rows left.
 use mathlib.Core.Path.{_≡_, refl, sym, _∙_}
 use Prim.Native.Nat.{_-_, _≤_, _<_}
 use native.Mathlib.Omega.{arith}
+use borrow.Author.Needs.{needs}
 use Rattle.prepared.specs.Parts.{contractIn}
 use Rattle.kind_lists.proofs.Stops.{ends, goes}
-use Rattle.round_pairs.specs.Steps.{At, pass-lefts, begin-right, next-symbol}
-use Rattle.round_pairs.proofs.Visits.{at-room, at-stood, at-lengths}
-use borrow.Author.Needs.{needs}
+use Rattle.round_pairs.specs.Steps.{At, pass-lefts, pass-rights, begin-right, next-symbol}
+use Rattle.round_pairs.proofs.Visits.{at-room, at-stood, at-right, at-lengths}
 use borrow.Author.Needs.{needs}
 use Rattle.round_pairs.proofs.left_rows.Statement.{statement}
 use Rattle.round_pairs.proofs.left_rows.Tie as tie
@@ -18,24 +18,24 @@ Inv-loop prepared table round lefts rights slots₀ rows₀ words₀ room₀ sym
 abbrev μ-loop : tie.MeasureT-loop
 μ-loop prepared table round lefts rights slots₀ rows₀ words₀ room₀ symbol stood total₀ left₀ slots rows words room total left = round .stood - left
 
-next-marked-requires : tie.Need-next-marked-requires Inv-loop μ-loop
-next-marked-requires c κs =
-    let pre = c .before .before .before .before .pre in
-    (omega (arith, pre .2, pre .0 .prepared .established .symbols .≤most), pre .3, at-stood (pre .1) .1)
-
 loop-holds : tie.Need-loop-holds Inv-loop μ-loop
-loop-holds c =
-    let pre = c .before .before .before .before .before .pre in
-    (pass-lefts _ (pre .1) (pre .4) (pre .2) (c .next-marked .ensures), c .next-marked .ensures .within)
+loop-holds c = (at-right _ (c .before .before .before .before .pre .4) (c .before .before .before .before .pre .1), c .before .before .before .before .pre .3)
 
 first-right-requires : tie.Need-first-right-requires Inv-loop μ-loop
 first-right-requires c κs = search needs
 
+next-marked-requires : tie.Need-next-marked-requires Inv-loop μ-loop
+next-marked-requires c κs =
+    let pre = c .before .before .before .before .before .before .before .pre in
+    let begun = begin-right _ (c .before .before .loop .inv .0) refl (pre .2) (c .first-right .result) (c .first-right .ensures) in
+    (omega (arith, pre .2, pre .0 .prepared .established .symbols .≤most), begun .1, at-stood (pre .1) .1)
+
 right-rows-requires : tie.Need-right-rows-requires Inv-loop μ-loop
 right-rows-requires c κs =
     let pre = c .before .before .before .before .before .before .before .before .before .before .before .before .pre in
-    let (begun, inside) = begin-right _ (c .before .before .before .before .before .before .loop .inv .0) refl (pre .2) (c .before .before .before .before .first-right .result) (c .before .before .before .before .first-right .ensures) in
-    (pre .0, begun, pre .2, omega arith, inside)
+    let begun = begin-right _ (c .before .before .before .before .before .before .before .loop .inv .0) refl (pre .2) (c .before .before .before .before .before .first-right .result) (c .before .before .before .before .before .first-right .ensures) in
+    let marked = c .before .before .before .before .next-marked .ensures in
+    (pre .0, pass-rights _ (begun .0) (pre .2) (omega arith) marked, pre .2, omega arith, marked .within)
 
 enum-known-step : tie.Need-enum-known-step Inv-loop μ-loop
 enum-known-step c = c .match .keys1
@@ -58,18 +58,19 @@ next-marked-requires-2 c κs =
     (omega (arith, pre .2, pre .0 .prepared .established .symbols .≤most), omega arith, at-stood (pre .1) .1)
 
 loop-less : tie.Need-loop-less Inv-loop μ-loop
-loop-less c = omega (arith, c .next-marked2 .ensures .after, c .before .before .before .before .before .before .before .before .before .before .before .before .before .before .loop-test .taken)
+loop-less c = omega (arith, c .next-marked2 .ensures .after, c .before .before .before .before .before .before .before .before .before .before .before .before .before .before .before .loop-test .taken)
 
 loop-again : tie.Need-loop-again Inv-loop μ-loop
 loop-again c =
     let pre = c .before .before .before .before .before .before .before .before .before .before .before .before .before .before .before .before .before .before .before .before .before .pre in
-    (pass-lefts _ (goes _ _ _ _ _ (c .before .before .before .before .before .before .before .before .right-rows .result) _ (c .before .before .step .given .1) (c .before .before .before .before .before .before .before .before .right-rows .ensures)) refl (pre .2) (c .next-marked2 .ensures), c .next-marked2 .ensures .within)
+    let marked = c .next-marked2 .ensures in
+    (pass-lefts _ (goes _ _ _ _ _ (c .before .before .before .before .before .before .before .before .right-rows .result) _ (c .before .before .step .given .1) (c .before .before .before .before .before .before .before .before .right-rows .ensures)) refl (pre .2) marked, marked .within)
 
 same-length-3 : tie.Need-same-length-3 Inv-loop μ-loop
-same-length-3 c = at-room (c .before .loop .inv .0) .rowRoom ∙ sym (at-room (c .before .before .before .before .before .before .before .pre .1) .rowRoom)
+same-length-3 c = at-room (c .before .loop .inv .0) .rowRoom ∙ sym (at-room (c .before .before .before .before .before .before .pre .1) .rowRoom)
 
 same-length-4 : tie.Need-same-length-4 Inv-loop μ-loop
-same-length-4 c = at-room (c .before .loop .inv .0) .wordRoom ∙ sym (at-room (c .before .before .before .before .before .before .before .pre .1) .wordRoom)
+same-length-4 c = at-room (c .before .loop .inv .0) .wordRoom ∙ sym (at-room (c .before .before .before .before .before .before .pre .1) .wordRoom)
 
 returns-2 : tie.Need-returns-2 Inv-loop μ-loop
 returns-2 c = next-symbol _ (c .before .loop .inv .0) (omega (arith, c .before .loop .inv .1, c .loop-test .left)) refl
@@ -80,9 +81,9 @@ left-rows-spec =
     (tie.spec
     Inv-loop
     μ-loop
-    next-marked-requires
     loop-holds
     first-right-requires
+    next-marked-requires
     right-rows-requires
     enum-known-step
     same-length

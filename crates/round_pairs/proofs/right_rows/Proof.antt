@@ -1,4 +1,4 @@
--- Invariant: the loops stand at the next right row that is marked. Measure: the right rows left.
+-- Invariant: the loops stand at a right row. Measure: the right rows left.
 use mathlib.Core.Path.{_≡_, refl, sym, _∙_}
 use Prim.Native.Nat.{_-_, _≤_, _<_}
 use native.Mathlib.Omega.{arith}
@@ -16,54 +16,48 @@ Inv-loop prepared table round place lefts rights slots₀ rows₀ words₀ room�
 abbrev μ-loop : tie.MeasureT-loop
 μ-loop prepared table round place lefts rights slots₀ rows₀ words₀ room₀ symbol stood total₀ right₀ slots rows words room total right = round .stood - right
 
-next-marked-requires : tie.Need-next-marked-requires Inv-loop μ-loop
-next-marked-requires c κs =
-    let pre = c .before .before .before .before .pre in
-    (omega (arith, pre .2, pre .0 .prepared .established .symbols .≤most), pre .4, at-stood (pre .1) .1)
-
 loop-holds : tie.Need-loop-holds Inv-loop μ-loop
-loop-holds c =
-    let pre = c .before .before .before .before .before .pre in
-    (pass-rights _ (pre .1) (pre .2) (pre .3) (c .next-marked .ensures), c .next-marked .ensures .within)
+loop-holds c = (c .before .before .before .before .pre .1, c .before .before .before .before .pre .4)
 
 visit-pair-requires : tie.Need-visit-pair-requires Inv-loop μ-loop
 visit-pair-requires c κs =
-    let pre = c .before .before .before .before .before .before .before .before .before .before .before .pre in
+    let pre = c .before .before .before .before .before .before .before .before .before .before .pre in
     (pre .0, c .before .before .before .before .before .loop .inv .0, pre .2, pre .3, omega arith)
 
 enum-known-step : tie.Need-enum-known-step Inv-loop μ-loop
 enum-known-step c = c .match .keys1
 
 same-length : tie.Need-same-length Inv-loop μ-loop
-same-length c = at-lengths _ _ _ _ _ _ _ _ _ (c .before .before .before .before .before .visit-pair .result) (c .before .before .before .before .before .visit-pair .ensures) .0 ∙ sym (at-room (c .before .before .before .before .before .before .before .before .before .before .before .before .before .before .before .before .before .pre .1) .rowRoom)
+same-length c = at-lengths _ _ _ _ _ _ _ _ _ (c .before .before .before .before .before .visit-pair .result) (c .before .before .before .before .before .visit-pair .ensures) .0 ∙ sym (at-room (c .before .before .before .before .before .before .before .before .before .before .before .before .before .before .before .before .pre .1) .rowRoom)
 
 same-length-2 : tie.Need-same-length-2 Inv-loop μ-loop
-same-length-2 c = at-lengths _ _ _ _ _ _ _ _ _ (c .before .before .before .before .before .visit-pair .result) (c .before .before .before .before .before .visit-pair .ensures) .1 ∙ sym (at-room (c .before .before .before .before .before .before .before .before .before .before .before .before .before .before .before .before .before .pre .1) .wordRoom)
+same-length-2 c = at-lengths _ _ _ _ _ _ _ _ _ (c .before .before .before .before .before .visit-pair .result) (c .before .before .before .before .before .visit-pair .ensures) .1 ∙ sym (at-room (c .before .before .before .before .before .before .before .before .before .before .before .before .before .before .before .before .pre .1) .wordRoom)
 
 returns : tie.Need-returns Inv-loop μ-loop
 returns c = ends _ _ _ _ _ _ (c .before .before .before .before .before .visit-pair .result) (c .match .keys2) (c .before .before .before .before .before .visit-pair .ensures)
 
 add-next-marked : tie.Need-add-next-marked Inv-loop μ-loop
-add-next-marked c = let (few, small) = at-stood (c .before .before .before .before .before .before .before .before .before .before .before .before .before .before .before .before .before .before .before .pre .1) in omega arith
+add-next-marked c = let (few, small) = at-stood (c .before .before .before .before .before .before .before .before .before .before .before .before .before .before .before .before .before .before .pre .1) in omega arith
 
-next-marked-requires-2 : tie.Need-next-marked-requires-2 Inv-loop μ-loop
-next-marked-requires-2 c κs =
-    let pre = c .before .before .before .before .before .before .before .before .before .before .before .before .before .before .before .before .before .before .before .pre in
+next-marked-requires : tie.Need-next-marked-requires Inv-loop μ-loop
+next-marked-requires c κs =
+    let pre = c .before .before .before .before .before .before .before .before .before .before .before .before .before .before .before .before .before .before .pre in
     (omega (arith, pre .2, pre .0 .prepared .established .symbols .≤most), omega arith, at-stood (pre .1) .1)
 
 loop-less : tie.Need-loop-less Inv-loop μ-loop
-loop-less c = omega (arith, c .next-marked2 .ensures .after, c .before .before .before .before .before .before .before .before .before .before .before .before .before .loop-test .taken)
+loop-less c = omega (arith, c .next-marked .ensures .after, c .before .before .before .before .before .before .before .before .before .before .before .before .before .loop-test .taken)
 
 loop-again : tie.Need-loop-again Inv-loop μ-loop
 loop-again c =
-    let pre = c .before .before .before .before .before .before .before .before .before .before .before .before .before .before .before .before .before .before .before .before .pre in
-    (pass-rights _ (goes _ _ _ _ _ (c .before .before .before .before .before .before .before .before .visit-pair .result) _ (c .before .before .step .given .1) (c .before .before .before .before .before .before .before .before .visit-pair .ensures)) (pre .2) (pre .3) (c .next-marked2 .ensures), c .next-marked2 .ensures .within)
+    let pre = c .before .before .before .before .before .before .before .before .before .before .before .before .before .before .before .before .before .before .before .pre in
+    let marked = c .next-marked .ensures in
+    (pass-rights _ (goes _ _ _ _ _ (c .before .before .before .before .before .before .before .before .visit-pair .result) _ (c .before .before .step .given .1) (c .before .before .before .before .before .before .before .before .visit-pair .ensures)) (pre .2) (pre .3) marked, marked .within)
 
 same-length-3 : tie.Need-same-length-3 Inv-loop μ-loop
-same-length-3 c = at-room (c .before .loop .inv .0) .rowRoom ∙ sym (at-room (c .before .before .before .before .before .before .before .pre .1) .rowRoom)
+same-length-3 c = at-room (c .before .loop .inv .0) .rowRoom ∙ sym (at-room (c .before .before .before .before .before .before .pre .1) .rowRoom)
 
 same-length-4 : tie.Need-same-length-4 Inv-loop μ-loop
-same-length-4 c = at-room (c .before .loop .inv .0) .wordRoom ∙ sym (at-room (c .before .before .before .before .before .before .before .pre .1) .wordRoom)
+same-length-4 c = at-room (c .before .loop .inv .0) .wordRoom ∙ sym (at-room (c .before .before .before .before .before .before .pre .1) .wordRoom)
 
 returns-2 : tie.Need-returns-2 Inv-loop μ-loop
 returns-2 c = next-left _ (c .before .loop .inv .0) (omega (arith, c .before .loop .inv .1, c .loop-test .left))
@@ -74,7 +68,6 @@ right-rows-spec =
     (tie.spec
     Inv-loop
     μ-loop
-    next-marked-requires
     loop-holds
     visit-pair-requires
     enum-known-step
@@ -82,7 +75,7 @@ right-rows-spec =
     same-length-2
     returns
     add-next-marked
-    next-marked-requires-2
+    next-marked-requires
     loop-less
     loop-again
     same-length-3
