@@ -2,11 +2,19 @@
 // branches. A procedure of fewer parameters than the greatest count has narrower lanes than the nodes' words have.
 ghost use mathlib.Core.Path.{_≡_};
 ghost use Prim.Native.Nat.{_+_, _*_, _-_, _^_, _<_, _≤_};
+ghost use lib.ListN.{replicate};
 ghost use Rattle.model.specs.Admission.{mostFacts};
 ghost use Rattle.kind_words.specs.Lanes.{Sized};
 ghost use Rattle.kind_words.specs.Blocks.{factsFrom, widened, narrowedLane, narrowed, withBlock};
 use lanes::lane;
 use lanes::up;
+
+// A kind of no state and no fact.
+pub fn no_facts() -> [u64; 6]
+    ensures { λ r. ⌜ r ≡ replicate 6 0 ⌝ }
+{
+    [0u64; 6]
+}
 
 // The 64 facts from a number on.
 pub fn facts_from(kind: &[u64; 6], number: usize) -> u64

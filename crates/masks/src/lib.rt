@@ -2,7 +2,7 @@
 // the procedures that its rules call there.
 ghost use mathlib.Core.Path.{_≡_};
 ghost use Prim.Native.Nat.{_+_, _*_, _<_, _≤_};
-ghost use lib.ListN.{length, replicate};
+ghost use lib.ListN.{length};
 ghost use Rattle.foundation.specs.Tests.{choose};
 ghost use Rattle.tables.specs.Tuples.{inputRowOf, nodeOf};
 ghost use Rattle.kind_words.specs.Sizes.{mostSymbols};
@@ -13,11 +13,10 @@ ghost use Rattle.masks.specs.Seen.{stateOn, stateBit, statesSeen, stored
 ghost use Rattle.masks.specs.Calls.{onesFor, withCall, CallFits, CallsFit, factsCalled, factsSeen};
 use blocks::assignments;
 use blocks::lane_of_ones;
+use blocks::no_facts;
 use blocks::put_block;
 use chains::first_row;
-use chains::list_of;
 use chains::row_after;
-use chains::rows_from;
 use lanes::PROCEDURES;
 use lanes::SYMBOLS;
 use lanes::place;
@@ -25,6 +24,12 @@ use lanes::place_at;
 use lanes::up;
 use lanes::wide;
 use prepared::Prepared;
+use prepared::counts_in;
+use prepared::list_in;
+use prepared::lists_in;
+use prepared::nexts_in;
+use prepared::nodes_in;
+use prepared::rows_in;
 use tables::InputRow;
 use tables::InputState;
 use tables::Node;
@@ -78,15 +83,10 @@ fn states_seen(prepared: Prepared, table: &[u16], symbol: Symbol, on_right: bool
     requires { ⌜ Ready prepared (now table) × (symbol .0 < mostSymbols) ⌝ }
     ensures { λ r. ⌜ r ≡ statesSeen (contractIn prepared (now (table .entry)) .input .rows) (symbol .0) «on_right» ⌝ }
 {
-    let counts = prepared.counts;
-    let rows = prepared.rows;
-    let nodes = prepared.nodes;
-    let rules = prepared.rules;
-    let nexts = rows_from(&table[nodes..rules]);
     states_named(
-        &table[rules..],
-        &table[counts..rows],
-        nexts,
+        lists_in(prepared, table),
+        rows_in(prepared, table),
+        nexts_in(prepared, table),
         symbol,
         on_right,
     )
@@ -133,13 +133,6 @@ fn put_call(
     }
 }
 
-// A mask of nothing.
-fn no_facts() -> [u64; 6]
-    ensures { λ r. ⌜ r ≡ replicate 6 0 ⌝ }
-{
-    [0u64; 6]
-}
-
 // The facts that the nodes on a list call on a side.
 fn facts_called(
     output_states: usize,
@@ -169,16 +162,12 @@ fn facts_seen(prepared: Prepared, table: &[u16], symbol: Symbol, on_right: bool)
 {
     let layout = prepared.layout;
     let offsets = prepared.offsets;
-    let counts = prepared.counts;
-    let marks = prepared.outputs;
-    let nodes = prepared.nodes;
-    let rules = prepared.rules;
     facts_called(
         layout.states,
-        &table[0..counts],
+        counts_in(prepared, table),
         &offsets,
-        &table[marks..nodes],
-        list_of(&table[rules..], symbol),
+        nodes_in(prepared, table),
+        list_in(prepared, table, symbol),
         on_right,
     )
 }

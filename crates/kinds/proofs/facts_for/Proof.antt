@@ -8,60 +8,28 @@ use Rattle.kinds.proofs.facts_for.Tie as tie
 no-facts-requires : tie.Need-no-facts-requires
 no-facts-requires c κs = search needs
 
-mul-add-rules : tie.Need-mul-add-rules
-mul-add-rules c = search needs
+lists-in-requires : tie.Need-lists-in-requires
+lists-in-requires c κs = search needs
 
-sub-add-rules : tie.Need-sub-add-rules
-sub-add-rules c = search needs
+counts-in-requires : tie.Need-counts-in-requires
+counts-in-requires c κs = search needs
 
-part-add-rules-start : tie.Need-part-add-rules-start
-part-add-rules-start c = search needs
-
-part-add-rules-end : tie.Need-part-add-rules-end
-part-add-rules-end c = search needs
-
-sub-add-rules-2 : tie.Need-sub-add-rules-2
-sub-add-rules-2 c = search needs
-
-part-add-rules-start-2 : tie.Need-part-add-rules-start-2
-part-add-rules-start-2 c = search needs
-
-part-add-rules-end-2 : tie.Need-part-add-rules-end-2
-part-add-rules-end-2 c = search needs
-
-mul-add-rules-2 : tie.Need-mul-add-rules-2
-mul-add-rules-2 c = search needs
-
-sub-add-rules-3 : tie.Need-sub-add-rules-3
-sub-add-rules-3 c = search needs
-
-part-add-rules-start-3 : tie.Need-part-add-rules-start-3
-part-add-rules-start-3 c = search needs
-
-part-add-rules-end-3 : tie.Need-part-add-rules-end-3
-part-add-rules-end-3 c = search needs
+rules-in-requires : tie.Need-rules-in-requires
+rules-in-requires c κs = search needs
 
 add-rules-requires : tie.Need-add-rules-requires
-add-rules-requires c κs = (rules-in (c .before .before .before .before .before .before .before .before .before .pre .0 .prepared), c .before .before .before .before .before .before .before .before .before .pre .1)
+add-rules-requires c κs = rw (c .before .before .before .lists-in .ensures, c .before .before .counts-in .ensures, c .before .rules-in .ensures) (rules-in (c .before .before .before .before .before .before .before .before .before .pre .0 .prepared), c .before .before .before .before .before .before .before .before .before .pre .1)
 
 returns : tie.Need-returns
-returns c = c .add-rules .ensures ∙ rw (c .before .before .before .before .before .before .no-facts .ensures)
+returns c = c .add-rules .ensures ∙ rw (c .before .before .before .before .before .before .no-facts .ensures, c .before .before .before .counts-in .ensures, c .before .before .rules-in .ensures)
 
 pub facts-for-spec : {M : Type 1} → statement M
 facts-for-spec =
     tie.close
     (tie.spec
     no-facts-requires
-    mul-add-rules
-    sub-add-rules
-    part-add-rules-start
-    part-add-rules-end
-    sub-add-rules-2
-    part-add-rules-start-2
-    part-add-rules-end-2
-    mul-add-rules-2
-    sub-add-rules-3
-    part-add-rules-start-3
-    part-add-rules-end-3
+    lists-in-requires
+    counts-in-requires
+    rules-in-requires
     add-rules-requires
     returns)
