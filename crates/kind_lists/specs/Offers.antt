@@ -24,7 +24,7 @@ use Rattle.breaking.specs.Verdicts.{breaking, VerdictsOf}
 use Rattle.breaking.specs.declared.Verdicts.{Verdicts}
 use Rattle.kind_lists.specs.Listing.{kindListed, withRow, withKind, Offering, Becomes, offering}
 use Rattle.kind_lists.specs.Held.{Holds, listed-has, not-listed, stored-held, breaks-padded}
-use Rattle.kind_lists.specs.Outcomes.{Unbroken, Broken, Overfull, Outcome}
+use Rattle.kind_lists.specs.Outcomes.{Unbroken, Overfull, Outcome}
 use Rattle.kind_lists.specs.declared.Progress.{Progress}
 use Rattle.kind_lists.specs.declared.Progress.the-variants as progress
 

@@ -50,32 +50,31 @@ module _ (A : TreeAutomaton) (decides : Decides A) where
       rw q at (lefts-after rows s i (k - i) h (omega arith) (λ l m p r b. listed l m p (omega arith) b))
 
 module _ (C : Contract) where
-  -- a row makes the same kinds as an earlier one, on the left or on the right
-  abbrev pub LeftSame : (height s i : ℕ) → Type 0
-  LeftSame height s i =
+  -- a row makes the same kinds as an earlier one, on the left or on the right, in every list that has it
+  abbrev pub LeftSame : (s i : ℕ) → Type 0
+  LeftSame s i =
       (e : ℕ) × (e < i)
-      × ((q : List ℕ) → nextKind C s (kindAt C (rounds (kindAutomaton C) height) i) q ≡ nextKind C s (kindAt C (rounds (kindAutomaton C) height) e) q)
+      × ((height : ℕ) → i < length (rounds (kindAutomaton C) height) → (q : List ℕ) → nextKind C s (kindAt C (rounds (kindAutomaton C) height) i) q ≡ nextKind C s (kindAt C (rounds (kindAutomaton C) height) e) q)
 
-  abbrev pub RightSame : (height s j : ℕ) → Type 0
-  RightSame height s j =
+  abbrev pub RightSame : (s j : ℕ) → Type 0
+  RightSame s j =
       (e : ℕ) × (e < j)
-      × ((q : List ℕ) → nextKind C s q (kindAt C (rounds (kindAutomaton C) height) j) ≡ nextKind C s q (kindAt C (rounds (kindAutomaton C) height) e))
+      × ((height : ℕ) → j < length (rounds (kindAutomaton C) height) → (q : List ℕ) → nextKind C s q (kindAt C (rounds (kindAutomaton C) height) j) ≡ nextKind C s q (kindAt C (rounds (kindAutomaton C) height) e))
 
   -- the rows below `marked` have their marks: one that misses a symbol's makes the same kinds as an earlier row
-  pub record Marked (height marked : ℕ) (lefts rights : List ℕ) : Type 0 where
-    pub leftSame : (s i : ℕ) → 1 ≤ s → s < C .transformation .symbols → i < marked → bit (getD lefts i 0) s ≡ false → LeftSame height s i
-    pub rightSame : (s j : ℕ) → 1 ≤ s → s < C .transformation .symbols → j < marked → bit (getD rights j 0) s ≡ false → RightSame height s j
-    pub leftRoom : length lefts ≡ 512
-    pub rightRoom : length rights ≡ 512
+  pub record LeftsMarked (marked : ℕ) (lefts : List ℕ) : Type 0 where
+    pub same : (s i : ℕ) → 1 ≤ s → s < C .transformation .symbols → i < marked → bit (getD lefts i 0) s ≡ false → LeftSame s i
+    pub long : length lefts ≡ 512
 
-  pub none-marked-yet : (height : ℕ) (lefts rights : List ℕ) → length lefts ≡ 512 → length rights ≡ 512 → Marked height 0 lefts rights
-  none-marked-yet height lefts rights leftRoom rightRoom =
-      record {
-        leftSame = λ s i h1 hS hi u. absurd (omega arith);
-        rightSame = λ s j h1 hS hj u. absurd (omega arith);
-        leftRoom = leftRoom;
-        rightRoom = rightRoom;
-      }
+  pub record RightsMarked (marked : ℕ) (rights : List ℕ) : Type 0 where
+    pub same : (s j : ℕ) → 1 ≤ s → s < C .transformation .symbols → j < marked → bit (getD rights j 0) s ≡ false → RightSame s j
+    pub long : length rights ≡ 512
+
+  pub no-lefts-marked : (lefts : List ℕ) → length lefts ≡ 512 → LeftsMarked 0 lefts
+  no-lefts-marked lefts long = record { same = λ s i h1 hS hi u. absurd (omega arith); long = long }
+
+  pub no-rights-marked : (rights : List ℕ) → length rights ≡ 512 → RightsMarked 0 rights
+  no-rights-marked rights long = record { same = λ s j h1 hS hj u. absurd (omega arith); long = long }
 
   -- `stood` rows stand after rounds 0 to `height`; the pairs of those below `before` are listed
   pub record Standing (height before stood : ℕ) : Type 0 where
@@ -91,51 +90,51 @@ module _ (C : Contract) where
       roundTo (kindAutomaton C) (rounds (kindAutomaton C) height) (place (length (rounds (kindAutomaton C) height)) s i j)
 
   -- the loops of a round stand before symbol s over rows i and j: the buffers hold the list so far, of n rows
-  pub record At (r : Round) (lefts rights : List ℕ) (s i j n : ℕ) (rows words : List ℕ) : Type 0 where
+  pub record At (r : Round) (s i j n : ℕ) (rows words : List ℕ) : Type 0 where
     pub height : ℕ
     pub standing : Standing height (r .before) (r .stood)
-    pub marks : Marked height (r .stood) lefts rights
     pub symbol : 1 ≤ s
     pub list : Unbroken C (r .limit) n rows words (listAt height s i j)
 
-  module _ {r : Round} {lefts rights : List ℕ} {s i j n : ℕ} {rows words : List ℕ} (at : At r lefts rights s i j n rows words) where
+  module _ {r : Round} {s i j n : ℕ} {rows words : List ℕ} (at : At r s i j n rows words) where
     abbrev stood : List (ListedKind C)
     stood = rounds (kindAutomaton C) (at .height)
 
     -- the loops stand elsewhere where the list is the same
-    moved : (s′ i′ j′ : ℕ) → 1 ≤ s′ → listAt (at .height) s′ i′ j′ ≡ listAt (at .height) s i j → At r lefts rights s′ i′ j′ n rows words
+    moved : (s′ i′ j′ : ℕ) → 1 ≤ s′ → listAt (at .height) s′ i′ j′ ≡ listAt (at .height) s i j → At r s′ i′ j′ n rows words
     moved s′ i′ j′ h e =
         record {
           height = at .height;
           standing = at .standing;
-          marks = at .marks;
           symbol = h;
           list = subst (λ (list : List (ListedKind C)). Unbroken C (r .limit) n rows words list) (sym e) (at .list);
         }
 
     -- right rows without their mark are passed over
-    pub pass-rights : s < C .transformation .symbols → i < r .stood → {k : ℕ} → NextMarked rights s j (r .stood) k → At r lefts rights s i k n rows words
-    pass-rights hS hi {k} m =
+    pub pass-rights : {rights : List ℕ} → RightsMarked (r .stood) rights → s < C .transformation .symbols → i < r .stood
+        → {k : ℕ} → NextMarked rights s j (r .stood) k → At r s i k n rows words
+    pass-rights marks hS hi {k} m =
         let counted = at .standing .counted in
         moved s i k (at .symbol)
         (skip-right (kindAutomaton C) (kinds-decided C) stood s i j k (at .symbol) (omega arith) (m .after) (omega (arith, m .within))
         (λ x from below.
-        let (e, le, q) = at .marks .rightSame s x (at .symbol) hS (omega (arith, m .within)) (m .passed x from below) in
-        same-right-listed (kindAutomaton C) (kinds-decided C) stood s x e (at .symbol) le (omega (arith, m .within)) q i (omega arith)))
+        let (e, le, q) = marks .same s x (at .symbol) hS (omega (arith, m .within)) (m .passed x from below) in
+        same-right-listed (kindAutomaton C) (kinds-decided C) stood s x e (at .symbol) le (omega (arith, m .within)) (q (at .height) (omega (arith, m .within))) i (omega arith)))
 
     -- left rows without their mark are passed over whole
-    pub pass-lefts : j ≡ 0 → s < C .transformation .symbols → {k : ℕ} → NextMarked lefts s i (r .stood) k → At r lefts rights s k 0 n rows words
-    pass-lefts z hS {k} m =
+    pub pass-lefts : {lefts : List ℕ} → LeftsMarked (r .stood) lefts → j ≡ 0 → s < C .transformation .symbols
+        → {k : ℕ} → NextMarked lefts s i (r .stood) k → At r s k 0 n rows words
+    pass-lefts marks z hS {k} m =
         let counted = at .standing .counted in
         moved s k 0 (at .symbol)
         (rw z
         (skip-lefts (kindAutomaton C) (kinds-decided C) stood s i k (at .symbol) (m .after) (omega (arith, m .within))
         (λ x y from below hy.
-        let (e, le, q) = at .marks .leftSame s x (at .symbol) hS (omega (arith, m .within)) (m .passed x from below) in
-        same-left-listed (kindAutomaton C) (kinds-decided C) stood s x e (at .symbol) le (omega (arith, m .within)) q y hy)))
+        let (e, le, q) = marks .same s x (at .symbol) hS (omega (arith, m .within)) (m .passed x from below) in
+        same-left-listed (kindAutomaton C) (kinds-decided C) stood s x e (at .symbol) le (omega (arith, m .within)) (q (at .height) (omega (arith, m .within))) y hy)))
 
     -- pairs of rows that stood in the round before are passed over
-    pub pass-old : j ≡ 0 → s < C .transformation .symbols → i < r .before → At r lefts rights s i (r .before) n rows words
+    pub pass-old : j ≡ 0 → s < C .transformation .symbols → i < r .before → At r s i (r .before) n rows words
     pass-old z hS hi =
         let counted = at .standing .counted in
         let earlier = at .standing .earlier in
@@ -146,28 +145,28 @@ module _ (C : Contract) where
 
     -- .. so that the right rows begin behind them
     pub begin-right : j ≡ 0 → s < C .transformation .symbols → (k : ℕ) → k ≡ choose (ltb i (r .before)) (r .before) 0
-        → At r lefts rights s i k n rows words × (k ≤ r .stood)
+        → At r s i k n rows words × (k ≤ r .stood)
     begin-right z hS k e = go (ltb i (r .before)) refl
       where
         earlier : r .before ≤ r .stood
         earlier = at .standing .earlier
 
-        go : (b : Bool) → ltb i (r .before) ≡ b → At r lefts rights s i k n rows words × (k ≤ r .stood)
+        go : (b : Bool) → ltb i (r .before) ≡ b → At r s i k n rows words × (k ≤ r .stood)
         go true q =
             let f : r .before ≡ k = sym (e ∙ rw q) in
-            (subst (λ (x : ℕ). At r lefts rights s i x n rows words) f (pass-old z hS (ltb-true i (r .before) q)), omega arith)
+            (subst (λ (x : ℕ). At r s i x n rows words) f (pass-old z hS (ltb-true i (r .before) q)), omega arith)
         go false q =
             let f : 0 ≡ k = sym (e ∙ rw q) in
-            (subst (λ (x : ℕ). At r lefts rights s i x n rows words) (z ∙ f) at, omega arith)
+            (subst (λ (x : ℕ). At r s i x n rows words) (z ∙ f) at, omega arith)
 
     -- after the last right row, and after the last left row
-    pub next-left : j ≡ r .stood → At r lefts rights s (i + 1) 0 n rows words
+    pub next-left : j ≡ r .stood → At r s (i + 1) 0 n rows words
     next-left e =
         let q : j ≡ length stood = e ∙ at .standing .counted in
         moved s (i + 1) 0 (at .symbol)
         (ap (λ (c : ℕ). roundTo (kindAutomaton C) stood c) (rw (add-one i, q) (place-next-left (length stood) s i)))
 
-    pub next-symbol : i ≡ r .stood → j ≡ 0 → At r lefts rights (s + 1) 0 0 n rows words
+    pub next-symbol : i ≡ r .stood → j ≡ 0 → At r (s + 1) 0 0 n rows words
     next-symbol e z =
         let q : i ≡ length stood = e ∙ at .standing .counted in
         let h = at .symbol in
@@ -210,14 +209,13 @@ module _ (C : Contract) where
       pub visit : Established C → (v : Verdicts) → VerdictsOf (C .input .marks) (C .output .marks) v
           → (kind : List ℕ) → kind ≡ nextKind C s (kindIn words i) (kindIn words j) ++ (0 ∷ [])
           → (p : Progress) (rows′ words′ : List ℕ) → Becomes (offering v (r .limit) n s i j kind rows words) p rows′ words′
-          → Outcome C (λ m. At r lefts rights s i (j + 1) m rows′ words′) (r .limit) rows′ words′ p
+          → Outcome C (λ m. At r s i (j + 1) m rows′ words′) (r .limit) rows′ words′ p
       visit known v verdicts kind ek p rows′ words′ b =
           let e : kind ≡ pairKind ++ (0 ∷ []) = ek ∙ rw (row-held i hi, row-held j hj) in
           outcome-map C (λ m u.
           record {
             height = at .height;
             standing = at .standing;
-            marks = at .marks;
             symbol = at .symbol;
             list = rw after u;
           }) (r .limit) rows′ words′ p

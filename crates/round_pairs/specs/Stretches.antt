@@ -7,17 +7,21 @@ use Rattle.kind_lists.specs.Outcomes.{Outcome}
 use Rattle.kind_lists.specs.declared.Progress.{Progress}
 use Rattle.round_pairs.specs.declared.Place.{Place}
 use Rattle.round_pairs.specs.declared.Round.{Round}
-use Rattle.round_pairs.specs.Steps.{At}
+use Rattle.round_pairs.specs.Steps.{LeftsMarked, RightsMarked, At}
 
-module _ (p : Prepared) (table : List ℕ) (r : Round) (lefts rights : List ℕ) where
+module _ (p : Prepared) (table : List ℕ) (r : Round) where
   -- the loops stand at a place
   abbrev pub Stands : Place → (rows words : List ℕ) → Type 0
-  Stands w rows words = At (contractIn p table) r lefts rights (w .symbol .0) (w .left) (w .right) (w .count) rows words
+  Stands w rows words = At (contractIn p table) r (w .symbol .0) (w .left) (w .right) (w .count) rows words
 
   -- .. before the first pair
   abbrev pub Starts : (rows words : List ℕ) → Type 0
-  Starts rows words = At (contractIn p table) r lefts rights 1 0 0 (r .stood) rows words
+  Starts rows words = At (contractIn p table) r 1 0 0 (r .stood) rows words
 
   -- they come to symbol s over rows i and j, or the answer is known
   abbrev pub Comes : (s i j : ℕ) (rows words : List ℕ) → Progress → Type 0
-  Comes s i j rows words = Outcome (contractIn p table) (λ n. At (contractIn p table) r lefts rights s i j n rows words) (r .limit) rows words
+  Comes s i j rows words = Outcome (contractIn p table) (λ n. At (contractIn p table) r s i j n rows words) (r .limit) rows words
+
+  -- all rows of the round have their marks
+  abbrev pub AllMarked : (lefts rights : List ℕ) → Type 0
+  AllMarked lefts rights = LeftsMarked (contractIn p table) (r .stood) lefts × RightsMarked (contractIn p table) (r .stood) rights

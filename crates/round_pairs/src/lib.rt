@@ -4,8 +4,9 @@ ghost use mathlib.Core.Path.{_≡_};
 ghost use Prim.Native.Nat.{_+_, _≤_, _<_};
 ghost use lib.Dec.{ltb};
 ghost use Rattle.foundation.specs.Tests.{choose};
-ghost use Rattle.prepared.specs.Parts.{Ready};
-ghost use Rattle.round_pairs.specs.Stretches.{Stands, Comes};
+ghost use Rattle.prepared.specs.Parts.{contractIn, Ready};
+ghost use Rattle.round_pairs.specs.Steps.{RightsMarked};
+ghost use Rattle.round_pairs.specs.Stretches.{Stands, Comes, AllMarked};
 use kind_lists::Progress;
 use kind_lists::listing::kind_at;
 use kind_lists::listing::offer;
@@ -35,15 +36,13 @@ fn visit_pair(
     table: &[u16],
     round: Round,
     place: Place,
-    lefts: &[u16; 512],
-    rights: &[u16; 512],
     slots: &mut [u16; 1024],
     rows: &mut [u16],
     words: &mut [u64],
     room: &mut [u64; 256],
 ) -> Progress
-    requires { ⌜ Ready prepared (now table) × Stands prepared (now table) round (now lefts) (now rights) place (now rows) (now words) × (place .symbol .0 < prepared .symbols) × (place .left < round .stood) × (place .right < round .stood) ⌝ }
-    ensures { λ r. ⌜ Comes prepared (now (table .entry)) round (now (lefts .entry)) (now (rights .entry)) (place .symbol .0) (place .left) (place .right + 1) (now (rows .exit)) (now (words .exit)) r ⌝ }
+    requires { ⌜ Ready prepared (now table) × Stands prepared (now table) round place (now rows) (now words) × (place .symbol .0 < prepared .symbols) × (place .left < round .stood) × (place .right < round .stood) ⌝ }
+    ensures { λ r. ⌜ Comes prepared (now (table .entry)) round (place .symbol .0) (place .left) (place .right + 1) (now (rows .exit)) (now (words .exit)) r ⌝ }
 {
     let symbol = place.symbol;
     let verdicts = prepared.verdicts;
@@ -70,15 +69,14 @@ fn right_rows(
     table: &[u16],
     round: Round,
     place: Place,
-    lefts: &[u16; 512],
     rights: &[u16; 512],
     slots: &mut [u16; 1024],
     rows: &mut [u16],
     words: &mut [u64],
     room: &mut [u64; 256],
 ) -> Progress
-    requires { ⌜ Ready prepared (now table) × Stands prepared (now table) round (now lefts) (now rights) place (now rows) (now words) × (place .symbol .0 < prepared .symbols) × (place .left < round .stood) × (place .right ≤ round .stood) ⌝ }
-    ensures { λ r. ⌜ Comes prepared (now (table .entry)) round (now (lefts .entry)) (now (rights .entry)) (place .symbol .0) (place .left + 1) 0 (now (rows .exit)) (now (words .exit)) r ⌝ }
+    requires { ⌜ Ready prepared (now table) × Stands prepared (now table) round place (now rows) (now words) × RightsMarked (contractIn prepared (now table)) (round .stood) (now rights) × (place .symbol .0 < prepared .symbols) × (place .left < round .stood) × (place .right ≤ round .stood) ⌝ }
+    ensures { λ r. ⌜ Comes prepared (now (table .entry)) round (place .symbol .0) (place .left + 1) 0 (now (rows .exit)) (now (words .exit)) r ⌝ }
 {
     let symbol = place.symbol;
     let stood = round.stood;
@@ -91,18 +89,7 @@ fn right_rows(
             right: right,
             count: total,
         };
-        let step = visit_pair(
-            prepared,
-            table,
-            round,
-            here,
-            lefts,
-            rights,
-            slots,
-            rows,
-            words,
-            room,
-        );
+        let step = visit_pair(prepared, table, round, here, slots, rows, words, room);
         let Progress::Going(next) = step else {
             return step;
         };
@@ -135,8 +122,8 @@ pub fn left_rows(
     words: &mut [u64],
     room: &mut [u64; 256],
 ) -> Progress
-    requires { ⌜ Ready prepared (now table) × Stands prepared (now table) round (now lefts) (now rights) place (now rows) (now words) × (place .symbol .0 < prepared .symbols) × (place .left ≤ round .stood) × (place .right ≡ 0) ⌝ }
-    ensures { λ r. ⌜ Comes prepared (now (table .entry)) round (now (lefts .entry)) (now (rights .entry)) (place .symbol .0 + 1) 0 0 (now (rows .exit)) (now (words .exit)) r ⌝ }
+    requires { ⌜ Ready prepared (now table) × Stands prepared (now table) round place (now rows) (now words) × AllMarked prepared (now table) round (now lefts) (now rights) × (place .symbol .0 < prepared .symbols) × (place .left ≤ round .stood) × (place .right ≡ 0) ⌝ }
+    ensures { λ r. ⌜ Comes prepared (now (table .entry)) round (place .symbol .0 + 1) 0 0 (now (rows .exit)) (now (words .exit)) r ⌝ }
 {
     let symbol = place.symbol;
     let stood = round.stood;
@@ -154,7 +141,6 @@ pub fn left_rows(
             table,
             round,
             here,
-            lefts,
             rights,
             slots,
             rows,

@@ -24,10 +24,10 @@ pub between-some : {C : Contract} {limit before stood : ℕ} {rows words : List 
 between-some {C} b = omega (arith, b .standing .counted, rounds-not-empty (kindAutomaton C) (b .height))
 
 -- the loops stand before the same symbol under another name
-pub at-symbol : {C : Contract} {r : Round} {lefts rights : List ℕ} {s i j n : ℕ} {rows words : List ℕ} (k : ℕ) → s ≡ k
-    → At C r lefts rights s i j n rows words → At C r lefts rights k i j n rows words
-at-symbol {C} {r} {lefts} {rights} {i = i} {j = j} {n = n} {rows = rows} {words = words} k e at =
-    subst (λ (x : ℕ). At C r lefts rights x i j n rows words) e at
+pub at-symbol : {C : Contract} {r : Round} {s i j n : ℕ} {rows words : List ℕ} (k : ℕ) → s ≡ k
+    → At C r s i j n rows words → At C r k i j n rows words
+at-symbol {C} {r} {i = i} {j = j} {n = n} {rows = rows} {words = words} k e at =
+    subst (λ (x : ℕ). At C r x i j n rows words) e at
 
 -- a number below another, where that is the first of two tests
 pub first-below : (a b : ℕ) (u : Bool) → (ltb a b && u) ≡ true → a < b

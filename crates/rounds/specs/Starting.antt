@@ -6,10 +6,10 @@ use native.Mathlib.Omega.{arith}
 use lib.ListN.{length}
 use Rattle.model.specs.Tables.{Contract}
 use Rattle.model.specs.Kinds.{emptyKind}
-use Rattle.model.specs.Rounds.{kindAutomaton, ListedKind, emptyRow, lists, added, rounds}
+use Rattle.model.specs.Rounds.{kindAutomaton, emptyRow, lists, added, rounds}
 use Rattle.model.specs.Checking.{rowNumbers, kindNumbers}
 use Rattle.model.proofs.Laws.Established.{Established}
-use Rattle.model.proofs.Rounds.Growth.{Beginning, rounds-beginning}
+use Rattle.model.proofs.Rounds.Growth.{rounds-beginning}
 use Rattle.model.proofs.Rounds.Buffers.{length-empty-kind}
 use Rattle.breaking.specs.Verdicts.{VerdictsOf}
 use Rattle.breaking.specs.declared.Verdicts.{Verdicts}

@@ -1,11 +1,10 @@
 // The rounds, which list the kinds of a prepared contract. Round 0 lists the kind of the empty forest. Each later one goes through
 // the symbols, until one adds nothing.
-ghost use mathlib.Core.Path.{_≡_};
 ghost use Prim.Native.Nat.{_≤_};
 ghost use Rattle.classes.specs.Masks.{Covered};
 ghost use Rattle.prepared.specs.Parts.{contractIn, Ready};
 ghost use Rattle.kind_lists.specs.Listing.{Room};
-ghost use Rattle.round_pairs.specs.Stretches.{Starts, Comes};
+ghost use Rattle.round_pairs.specs.Stretches.{Starts, Comes, AllMarked};
 ghost use Rattle.rounds.specs.Between.{Between};
 ghost use Rattle.rounds.specs.Lists.{Begun, Lists};
 use kind_lists::Progress;
@@ -32,8 +31,8 @@ fn one_round(
     words: &mut [u64],
     room: &mut [u64; 256],
 ) -> Progress
-    requires { ⌜ Ready prepared (now table) × Starts prepared (now table) round (now lefts) (now rights) (now rows) (now words) ⌝ }
-    ensures { λ r. ⌜ Comes prepared (now (table .entry)) round (now (lefts .entry)) (now (rights .entry)) (prepared .symbols) 0 0 (now (rows .exit)) (now (words .exit)) r ⌝ }
+    requires { ⌜ Ready prepared (now table) × Starts prepared (now table) round (now rows) (now words) × AllMarked prepared (now table) round (now lefts) (now rights) ⌝ }
+    ensures { λ r. ⌜ Comes prepared (now (table .entry)) round (prepared .symbols) 0 0 (now (rows .exit)) (now (words .exit)) r ⌝ }
 {
     let symbols = prepared.symbols;
     let stood = round.stood;

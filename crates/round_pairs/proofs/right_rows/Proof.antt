@@ -1,6 +1,6 @@
 -- Invariant: the loops stand at a right row. Measure: the right rows left.
-use mathlib.Core.Path.{_≡_, refl, sym, _∙_}
-use Prim.Native.Nat.{_-_, _≤_, _<_}
+use mathlib.Core.Path.{sym, _∙_}
+use Prim.Native.Nat.{_-_, _≤_}
 use native.Mathlib.Omega.{arith}
 use Rattle.prepared.specs.Parts.{contractIn}
 use Rattle.kind_lists.proofs.Stops.{ends, goes}
@@ -10,28 +10,28 @@ use Rattle.round_pairs.proofs.right_rows.Statement.{statement}
 use Rattle.round_pairs.proofs.right_rows.Tie as tie
 
 abbrev Inv-loop : tie.InvT-loop
-Inv-loop prepared table round place lefts rights slots₀ rows₀ words₀ room₀ symbol stood total₀ right₀ slots rows words room total right =
-    At (contractIn prepared table) round lefts rights (place .symbol .0) (place .left) right total rows words × (right ≤ round .stood)
+Inv-loop prepared table round place rights slots₀ rows₀ words₀ room₀ symbol stood total₀ right₀ slots rows words room total right =
+    At (contractIn prepared table) round (place .symbol .0) (place .left) right total rows words × (right ≤ round .stood)
 
 abbrev μ-loop : tie.MeasureT-loop
-μ-loop prepared table round place lefts rights slots₀ rows₀ words₀ room₀ symbol stood total₀ right₀ slots rows words room total right = round .stood - right
+μ-loop prepared table round place rights slots₀ rows₀ words₀ room₀ symbol stood total₀ right₀ slots rows words room total right = round .stood - right
 
 loop-holds : tie.Need-loop-holds Inv-loop μ-loop
-loop-holds c = (c .before .before .before .before .pre .1, c .before .before .before .before .pre .4)
+loop-holds c = (c .before .before .before .before .pre .1, c .before .before .before .before .pre .5)
 
 visit-pair-requires : tie.Need-visit-pair-requires Inv-loop μ-loop
 visit-pair-requires c κs =
     let pre = c .before .before .before .before .before .before .before .before .before .before .pre in
-    (pre .0, c .before .before .before .before .before .loop .inv .0, pre .2, pre .3, omega arith)
+    (pre .0, c .before .before .before .before .before .loop .inv .0, pre .3, pre .4, omega arith)
 
 enum-known-step : tie.Need-enum-known-step Inv-loop μ-loop
 enum-known-step c = c .match .keys1
 
 same-length : tie.Need-same-length Inv-loop μ-loop
-same-length c = at-lengths _ _ _ _ _ _ _ _ _ (c .before .before .before .before .before .visit-pair .result) (c .before .before .before .before .before .visit-pair .ensures) .0 ∙ sym (at-room (c .before .before .before .before .before .before .before .before .before .before .before .before .before .before .before .before .pre .1) .rowRoom)
+same-length c = at-lengths _ _ _ _ _ _ _ (c .before .before .before .before .before .visit-pair .result) (c .before .before .before .before .before .visit-pair .ensures) .0 ∙ sym (at-room (c .before .before .before .before .before .before .before .before .before .before .before .before .before .before .before .before .pre .1) .rowRoom)
 
 same-length-2 : tie.Need-same-length-2 Inv-loop μ-loop
-same-length-2 c = at-lengths _ _ _ _ _ _ _ _ _ (c .before .before .before .before .before .visit-pair .result) (c .before .before .before .before .before .visit-pair .ensures) .1 ∙ sym (at-room (c .before .before .before .before .before .before .before .before .before .before .before .before .before .before .before .before .pre .1) .wordRoom)
+same-length-2 c = at-lengths _ _ _ _ _ _ _ (c .before .before .before .before .before .visit-pair .result) (c .before .before .before .before .before .visit-pair .ensures) .1 ∙ sym (at-room (c .before .before .before .before .before .before .before .before .before .before .before .before .before .before .before .before .pre .1) .wordRoom)
 
 returns : tie.Need-returns Inv-loop μ-loop
 returns c = ends _ _ _ _ _ _ (c .before .before .before .before .before .visit-pair .result) (c .match .keys2) (c .before .before .before .before .before .visit-pair .ensures)
@@ -42,7 +42,7 @@ add-next-marked c = let (few, small) = at-stood (c .before .before .before .befo
 next-marked-requires : tie.Need-next-marked-requires Inv-loop μ-loop
 next-marked-requires c κs =
     let pre = c .before .before .before .before .before .before .before .before .before .before .before .before .before .before .before .before .before .before .pre in
-    (omega (arith, pre .2, pre .0 .prepared .established .symbols .≤most), omega arith, at-stood (pre .1) .1)
+    (omega (arith, pre .3, pre .0 .prepared .established .symbols .≤most), omega arith, at-stood (pre .1) .1)
 
 loop-less : tie.Need-loop-less Inv-loop μ-loop
 loop-less c = omega (arith, c .next-marked .ensures .after, c .before .before .before .before .before .before .before .before .before .before .before .before .before .loop-test .taken)
@@ -51,7 +51,7 @@ loop-again : tie.Need-loop-again Inv-loop μ-loop
 loop-again c =
     let pre = c .before .before .before .before .before .before .before .before .before .before .before .before .before .before .before .before .before .before .before .pre in
     let marked = c .next-marked .ensures in
-    (pass-rights _ (goes _ _ _ _ _ (c .before .before .before .before .before .before .before .before .visit-pair .result) _ (c .before .before .step .given .1) (c .before .before .before .before .before .before .before .before .visit-pair .ensures)) (pre .2) (pre .3) marked, marked .within)
+    (pass-rights _ (goes _ _ _ _ _ (c .before .before .before .before .before .before .before .before .visit-pair .result) _ (c .before .before .step .given .1) (c .before .before .before .before .before .before .before .before .visit-pair .ensures)) (pre .2) (pre .3) (pre .4) marked, marked .within)
 
 same-length-3 : tie.Need-same-length-3 Inv-loop μ-loop
 same-length-3 c = at-room (c .before .loop .inv .0) .rowRoom ∙ sym (at-room (c .before .before .before .before .before .before .pre .1) .rowRoom)

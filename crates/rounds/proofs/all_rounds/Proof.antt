@@ -1,12 +1,13 @@
 -- Invariant: the buffers hold the rows of some rounds, and those of the last but one have their marks. Measure: how many rows
 -- there may be above those.
-use mathlib.Core.Path.{_≡_, refl, sym, _∙_}
-use Prim.Native.Nat.{_-_, _≤_, _<_}
+use mathlib.Core.Path.{refl, sym, _∙_}
+use Prim.Native.Nat.{_-_}
 use native.Mathlib.Omega.{arith}
 use Rattle.prepared.specs.Parts.{contractIn}
 use Rattle.kind_lists.proofs.Stops.{ends, goes}
-use Rattle.round_pairs.specs.Steps.{Marked, none-marked-yet}
+use Rattle.round_pairs.specs.Steps.{LeftsMarked, RightsMarked, no-lefts-marked, no-rights-marked}
 use Rattle.rounds.specs.Between.{Between, round-starts, round-ends, passed}
+use Rattle.rounds.specs.Marking.{lefts-marked, rights-marked}
 use Rattle.round_pairs.proofs.Visits.{at-lengths}
 use Rattle.rounds.proofs.Laps.{between-room, between-some}
 use Rattle.rounds.proofs.all_rounds.Statement.{statement}
@@ -14,38 +15,39 @@ use Rattle.rounds.proofs.all_rounds.Tie as tie
 
 abbrev Inv-loop : tie.InvT-loop
 Inv-loop prepared table left-masks right-masks limit count slots₀ rows₀ words₀ room₀ lefts₀ rights₀ before₀ stood₀ slots rows words room lefts rights before stood =
-    (b : Between (contractIn prepared table) limit before stood rows words) × Marked (contractIn prepared table) (b .height) before lefts rights
+    Between (contractIn prepared table) limit before stood rows words × LeftsMarked (contractIn prepared table) before lefts × RightsMarked (contractIn prepared table) before rights
 
 abbrev μ-loop : tie.MeasureT-loop
 μ-loop prepared table left-masks right-masks limit count slots₀ rows₀ words₀ room₀ lefts₀ rights₀ before₀ stood₀ slots rows words room lefts rights before stood = limit - before
 
 loop-holds : tie.Need-loop-holds Inv-loop μ-loop
-loop-holds c = (c .before .before .before .pre .2, none-marked-yet _ _ _ _ refl refl)
+loop-holds c = (c .before .before .before .pre .2, no-lefts-marked _ _ refl, no-rights-marked _ _ refl)
 
 mark-rows-requires : tie.Need-mark-rows-requires Inv-loop μ-loop
 mark-rows-requires c κs =
     let room = between-room (c .before .before .before .loop .inv .0) in
-    (omega (arith, room .used, room .wordRoom), c .before .before .before .before .before .before .before .pre .0 .prepared .established .symbols .≤most, omega (arith, room .used, room .few), c .before .before .before .loop .inv .1 .leftRoom)
+    (omega (arith, room .used, room .wordRoom), c .before .before .before .before .before .before .before .pre .0 .prepared .established .symbols .≤most, omega (arith, room .used, room .few), c .before .before .before .loop .inv .1 .long)
 
 mark-rows-requires-2 : tie.Need-mark-rows-requires-2 Inv-loop μ-loop
 mark-rows-requires-2 c κs =
     let room = between-room (c .before .before .before .before .before .before .loop .inv .0) in
-    (omega (arith, room .used, room .wordRoom), c .before .before .before .before .before .before .before .before .before .before .pre .0 .prepared .established .symbols .≤most, omega (arith, room .used, room .few), c .before .before .before .before .before .before .loop .inv .1 .rightRoom)
+    (omega (arith, room .used, room .wordRoom), c .before .before .before .before .before .before .before .before .before .before .pre .0 .prepared .established .symbols .≤most, omega (arith, room .used, room .few), c .before .before .before .before .before .before .loop .inv .2 .long)
 
 one-round-requires : tie.Need-one-round-requires Inv-loop μ-loop
 one-round-requires c κs =
     let pre = c .before .before .before .before .before .before .before .before .before .before .before .before .before .before .before .before .before .pre in
     let inv = c .before .before .before .before .before .before .before .before .before .before .before .before .before .loop .inv in
-    (pre .0, round-starts _ (pre .0 .prepared .established) _ _ (pre .1) (inv .0) (inv .1) (c .before .before .before .before .before .before .before .before .before .mark-rows .ensures) (c .before .before .before .before .before .before .mark-rows2 .ensures))
+    let known = pre .0 .prepared .established in
+    (pre .0, round-starts _ (inv .0), (lefts-marked _ known _ _ (pre .1) (inv .0) (inv .1) (c .before .before .before .before .before .before .before .before .before .mark-rows .ensures), rights-marked _ known _ _ (pre .1) (inv .0) (inv .2) (c .before .before .before .before .before .before .mark-rows2 .ensures)))
 
 enum-known-step : tie.Need-enum-known-step Inv-loop μ-loop
 enum-known-step c = c .match .keys1
 
 same-length : tie.Need-same-length Inv-loop μ-loop
-same-length c = at-lengths _ _ _ _ _ _ _ _ _ (c .before .before .before .before .before .one-round .result) (c .before .before .before .before .before .one-round .ensures) .0 ∙ sym (between-room (c .before .before .before .before .before .before .before .before .before .before .before .before .before .before .before .before .before .before .before .before .before .before .before .pre .2) .rowRoom)
+same-length c = at-lengths _ _ _ _ _ _ _ (c .before .before .before .before .before .one-round .result) (c .before .before .before .before .before .one-round .ensures) .0 ∙ sym (between-room (c .before .before .before .before .before .before .before .before .before .before .before .before .before .before .before .before .before .before .before .before .before .before .before .pre .2) .rowRoom)
 
 same-length-2 : tie.Need-same-length-2 Inv-loop μ-loop
-same-length-2 c = at-lengths _ _ _ _ _ _ _ _ _ (c .before .before .before .before .before .one-round .result) (c .before .before .before .before .before .one-round .ensures) .1 ∙ sym (between-room (c .before .before .before .before .before .before .before .before .before .before .before .before .before .before .before .before .before .before .before .before .before .before .before .pre .2) .wordRoom)
+same-length-2 c = at-lengths _ _ _ _ _ _ _ (c .before .before .before .before .before .one-round .result) (c .before .before .before .before .before .one-round .ensures) .1 ∙ sym (between-room (c .before .before .before .before .before .before .before .before .before .before .before .before .before .before .before .before .before .before .before .before .before .before .before .pre .2) .wordRoom)
 
 returns : tie.Need-returns Inv-loop μ-loop
 returns c = ends _ _ _ _ _ _ (c .before .before .before .before .before .one-round .result) (c .match .keys2) (c .before .before .before .before .before .one-round .ensures)
@@ -57,7 +59,11 @@ loop-less c =
     omega (arith, between-room b .used, between-some b)
 
 loop-again : tie.Need-loop-again Inv-loop μ-loop
-loop-again c = round-ends _ (goes _ _ _ _ _ (c .before .before .before .before .before .before .before .one-round .result) _ (c .before .step .given .1) (c .before .before .before .before .before .before .before .one-round .ensures))
+loop-again c =
+    let pre = c .before .before .before .before .before .before .before .before .before .before .before .before .before .before .before .before .before .before .before .before .before .before .before .before .before .pre in
+    let inv = c .before .before .before .before .before .before .before .before .before .before .before .before .before .before .before .before .before .before .before .before .before .loop .inv in
+    let known = pre .0 .prepared .established in
+    (round-ends _ (goes _ _ _ _ _ (c .before .before .before .before .before .before .before .one-round .result) _ (c .before .step .given .1) (c .before .before .before .before .before .before .before .one-round .ensures)), lefts-marked _ known _ _ (pre .1) (inv .0) (inv .1) (c .before .before .before .before .before .before .before .before .before .before .before .before .before .before .before .before .before .mark-rows .ensures), rights-marked _ known _ _ (pre .1) (inv .0) (inv .2) (c .before .before .before .before .before .before .before .before .before .before .before .before .before .before .mark-rows2 .ensures))
 
 same-length-3 : tie.Need-same-length-3 Inv-loop μ-loop
 same-length-3 c = between-room (c .before .loop .inv .0) .rowRoom ∙ sym (between-room (c .before .before .before .before .before .pre .2) .rowRoom)
