@@ -3,8 +3,7 @@ use mathlib.Core.Path.{_≡_, refl, ap, ap₂, subst, sym, _∙_}
 use mathlib.Core.List.{List, [], _∷_, _++_}
 use mathlib.Core.Bool.{Bool}
 use Prim.Native.Nat.{ℕ}
-use native.Mathlib.Omega.{arith}
-use lib.ListN.{length, getD, take, set}
+use lib.ListN.{length, take}
 use borrow.Author.Tests.{eq-eqb, ne-eqb}
 use Rattle.foundation.specs.Tests.{choose}
 use Rattle.model.specs.Tables.{Contract}
@@ -26,24 +25,6 @@ use Rattle.admission.proofs.Answered.{refused-as}
 use Rattle.breaking.specs.declared.Verdicts.{Verdicts}
 use Rattle.breaking.specs.Verdicts.{VerdictsOf, accepting, breaking, accepting-is, breaking-is}
 use Rattle.document_kinds.specs.Stored.{kind-taken}
-
--- five words of six
-pub five-of : (kind words : List ℕ) → length kind ≡ 5 → length words ≡ 6
-    → set (set (set (set (set kind 0 (getD words 0 0)) 1 (getD words 1 0)) 2 (getD words 2 0)) 3 (getD words 3 0)) 4 (getD words 4 0) ≡ take 5 words
-five-of [] words h g = absurd (omega arith)
-five-of (k ∷ []) words h g = absurd (omega arith)
-five-of (k ∷ l ∷ []) words h g = absurd (omega arith)
-five-of (k ∷ l ∷ m ∷ []) words h g = absurd (omega arith)
-five-of (k ∷ l ∷ m ∷ n ∷ []) words h g = absurd (omega arith)
-five-of (k ∷ l ∷ m ∷ n ∷ o ∷ []) [] h g = absurd (omega arith)
-five-of (k ∷ l ∷ m ∷ n ∷ o ∷ []) (a ∷ []) h g = absurd (omega arith)
-five-of (k ∷ l ∷ m ∷ n ∷ o ∷ []) (a ∷ b ∷ []) h g = absurd (omega arith)
-five-of (k ∷ l ∷ m ∷ n ∷ o ∷ []) (a ∷ b ∷ c ∷ []) h g = absurd (omega arith)
-five-of (k ∷ l ∷ m ∷ n ∷ o ∷ []) (a ∷ b ∷ c ∷ d ∷ []) h g = absurd (omega arith)
-five-of (k ∷ l ∷ m ∷ n ∷ o ∷ []) (a ∷ b ∷ c ∷ d ∷ e ∷ []) h g = absurd (omega arith)
-five-of (k ∷ l ∷ m ∷ n ∷ o ∷ []) (a ∷ b ∷ c ∷ d ∷ e ∷ f ∷ []) h g = refl
-five-of (k ∷ l ∷ m ∷ n ∷ o ∷ []) (a ∷ b ∷ c ∷ d ∷ e ∷ f ∷ x ∷ rest) h g = absurd (omega arith)
-five-of (k ∷ l ∷ m ∷ n ∷ o ∷ x ∷ rest) words h g = absurd (omega arith)
 
 -- an answer and the closing buffer
 pub record Comes (answer : Answer) (words : List ℕ) (to : Judged) : Type 0 where

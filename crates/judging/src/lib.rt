@@ -28,11 +28,11 @@ fn write_kind(words: &[u64; 6], kind: &mut [u64])
     requires { ⌜ (length (now kind) ≡ 5) × (length (now words) ≡ 6) ⌝ }
     ensures { λ _. ⌜ now (kind .exit) ≡ take 5 (now (words .entry)) ⌝ }
 {
-    kind[0] = words[0];
-    kind[1] = words[1];
-    kind[2] = words[2];
-    kind[3] = words[3];
-    kind[4] = words[4];
+    let mut i: usize = 0;
+    while i < 5 {
+        kind[i] = words[i];
+        i += 1;
+    }
 }
 
 // What a kind tells of its document.
