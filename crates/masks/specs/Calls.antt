@@ -114,9 +114,9 @@ ones-double (suc w) h =
 pub ones-room : (w : ℕ) → 1 ≤ w → w ≤ 64 → (2 ^ (w - 1) - 1) * 2 + 1 < 2 ^ 64
 ones-room w h l = let p : 2 ^ w ≤ 2 ^ 64 = pow-mono {i = w} {j = 64} l in rw (ones-double w h) (omega (arith, pow-pos w))
 
-pub width-between : (O count : ℕ) → 1 ≤ O → O ≤ 4 → count ≤ 2 → (1 ≤ O ^ count * O) × (O ^ count * O ≤ 64)
-width-between O count h l k =
-    (rw (← pow-suc O count) (pow-some O (suc count) h), rw (mul-comm (O ^ count) O) (lanes-fit O count h l k))
+-- a procedure has a fact, and at most 64
+pub facts-between : (O count : ℕ) → 1 ≤ O → O ≤ 4 → count ≤ 2 → (1 ≤ O ^ suc count) × (O ^ suc count ≤ 64)
+facts-between O count h l k = (pow-some O (suc count) h, rw (pow-suc, mul-comm (O ^ count) O) (lanes-fit O count h l k))
 
 -- one node more
 module _ (C : Contract) (known : Established C) where
@@ -137,9 +137,6 @@ module _ (C : Contract) (known : Established C) where
       go (good-nothing e z) = absurd (omega arith)
       go (good-symbol e a b x y) = absurd (omega arith)
       go (good-call e p c x y) = p
-
-  ones-small : (count : ℕ) → count ≤ 2 → O ^ suc count ≤ 64
-  ones-small count h = rw (pow-suc, mul-comm (O ^ count) O) (lanes-fit O count (known .outputStates .least≤) (known .outputStates .≤most) h)
 
   shown-more : (offsets : List ℕ) → OffsetsIn C offsets → (list : ℕ → ℕ) (onRight : Bool) (i : ℕ) (mask : List ℕ) → list i < nodeCount nodes
       → Shown O counts nodes list onRight i mask
@@ -174,7 +171,7 @@ module _ (C : Contract) (known : Established C) where
           small : nodeAt nodes (list i) .name < length counts → block < 2 ^ 64
           small l =
               let w : ℕ = O ^ suc (countOf counts (nodeAt nodes (list i) .name)) in
-              let p : 2 ^ w ≤ 2 ^ 64 = pow-mono {i = w} {j = 64} (ones-small _ (known .count _)) in
+              let p : 2 ^ w ≤ 2 ^ 64 = pow-mono {i = w} {j = 64} (facts-between O _ (known .outputStates .least≤) (known .outputStates .≤most) (known .count _) .1) in
               omega (arith, pow-pos w)
 
           near : nodeAt nodes (list i) .name < length counts → from < mostFacts

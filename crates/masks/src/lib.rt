@@ -1,7 +1,7 @@
 // The masks of what each symbol can see of a child's kind: the states that its input rows name on that side, and the facts of
 // the procedures that its rules call there.
 ghost use mathlib.Core.Path.{_≡_};
-ghost use Prim.Native.Nat.{_+_, _*_, _<_, _≤_};
+ghost use Prim.Native.Nat.{suc, _+_, _*_, _^_, _<_, _≤_};
 ghost use lib.ListN.{length};
 ghost use Rattle.foundation.specs.Tests.{choose};
 ghost use Rattle.tables.specs.Tuples.{inputRowOf, nodeOf};
@@ -92,13 +92,21 @@ fn states_seen(prepared: Prepared, table: &[u16], symbol: Symbol, on_right: bool
     )
 }
 
-// As many ones as a procedure of that many parameters has facts.
+// How many facts a procedure of that many parameters has.
+fn fact_count(output_states: usize, count: u16) -> u64
+    requires { ⌜ (1 ≤ «output_states») × («output_states» ≤ 4) × (count ≤ 2) ⌝ }
+    ensures { λ r. ⌜ r ≡ «output_states» ^ suc count ⌝ }
+{
+    let states = output_states as u64;
+    assignments(states, count) * states
+}
+
+// As many ones.
 fn ones_for(output_states: usize, count: u16) -> u64
     requires { ⌜ (1 ≤ «output_states») × («output_states» ≤ 4) × (count ≤ 2) ⌝ }
     ensures { λ r. ⌜ r ≡ onesFor «output_states» count ⌝ }
 {
-    let states = output_states as u64;
-    let facts = assignments(states, count) * states;
+    let facts = fact_count(output_states, count);
     lane_of_ones(facts - 1) * 2 + 1
 }
 
