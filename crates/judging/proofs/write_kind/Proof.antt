@@ -40,8 +40,7 @@ loop-again : tie.Need-loop-again Inv-loop μ-loop
 loop-again c =
     let args = c .before .before .before .args in
     let loop = c .before .before .loop in
-    let at : loop .i ≡ 0 + loop .i = omega arith in
-    (
+    let at : loop .i ≡ 0 + loop .i = omega arith in (
       rw (add-one (loop .i))
           (ap (λ (p : ℕ). set (loop .kind) p (getD (args .words .now) (loop .i) 0)) at
           ∙ ap (λ (l : List ℕ). set l (0 + loop .i) (getD (args .words .now) (loop .i) 0)) (loop .inv .0)
