@@ -112,6 +112,7 @@ module _ (S I O : ℕ) (cs rows inputMarks table outputMarks ns rs : List ℕ) w
   pub small-counts : shapeVerdict ≡ fine → typesVerdict ≡ fine → SmallCounts O cs
   small-counts e t =
       record {
+        states≥ = sizes-good C (shape-sizes e) .outputStates .least≤;
         states≤ = sizes-good C (shape-sizes e) .outputStates .≤most;
         procedures≤ = few-procedures e;
         count≤ = counts-good C (types-counts t);

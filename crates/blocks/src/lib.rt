@@ -8,6 +8,7 @@ ghost use Rattle.kind_words.specs.Lanes.{Sized};
 ghost use Rattle.kind_words.specs.Blocks.{factsFrom, widened, narrowedLane, narrowed, withBlock};
 use lanes::lane;
 use lanes::up;
+use numbering::power;
 
 // A kind of no state and no fact.
 pub fn no_facts() -> [u64; 6]
@@ -42,17 +43,14 @@ pub fn put_block(kind: &mut [u64; 6], block: u64, number: usize)
 }
 
 // How many assignments a procedure of that many parameters has.
-pub fn assignments(states: u64, count: u16) -> u64
-    requires { ⌜ (count ≤ 2) × (states * states ≤ 64) ⌝ }
+pub fn assignments(states: usize, count: u16) -> u64
+    requires { ⌜ (1 ≤ states) × (states ≤ 4) × (count ≤ 2) ⌝ }
     ensures { λ r. ⌜ r ≡ states ^ count ⌝ }
 {
     if count == 0 {
         return 1;
     }
-    if count == 1 {
-        return states;
-    }
-    states * states
+    power(states, count as usize) as u64
 }
 
 // A lane of ones.

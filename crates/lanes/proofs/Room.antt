@@ -1,7 +1,7 @@
 -- Lanes fit into a word: the room of a shift, of a product and of a row of the output table.
-use mathlib.Core.Path.{_≡_, refl, ap, sym, _∙_}
+use mathlib.Core.Path.{_≡_, sym}
 use Prim.Native.Nat.{ℕ, zero, suc, _+_, _-_, _*_, _/_, _^_, _≤_, _<_}
-use native.Mathlib.Nat.{mul-le-mul-right, mul-le-mul-left, pow-zero, pow-suc, one-le-pow, mul-div-le, le-div-iff-mul-le, pow-le-pow-left, pow-le-pow-right}
+use native.Mathlib.Nat.{mul-le-mul-right, mul-le-mul-left, pow-zero, one-le-pow, mul-div-le, le-div-iff-mul-le, pow-le-pow-left, pow-le-pow-right}
 use native.Mathlib.Omega.{arith}
 use lib.Pow.{pow-mono, pow-lt, shl-lt, pow-pos}
 use lib.Bits.{bitAnd, and-le-l, mask-lt}
@@ -60,12 +60,6 @@ thin-lt t l a i m h e = let k : 2 ^ t ≤ 2 ^ l = pow-mono {i = t} {j = l} h in 
 
 pub pow0 : (o c : ℕ) → c ≡ 0 → 1 ≡ o ^ c
 pow0 o c e = rw e (sym (pow-zero o))
-
-pub pow1 : (o c : ℕ) → c ≡ 1 → o ≡ o ^ c
-pow1 o c e = rw e (sym (pow-suc o 0 ∙ rw pow-zero (omega arith)))
-
-pub pow2 : (o c : ℕ) → c ≡ 2 → o * o ≡ o ^ c
-pow2 o c e = rw e (sym (pow-suc o 1 ∙ ap (λ (x : ℕ). x * o) (sym (pow1 o 1 refl))))
 
 pub pow-some : (o c : ℕ) → 0 < o → 0 < o ^ c
 pow-some o c h = one-le-pow c o h

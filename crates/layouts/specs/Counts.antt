@@ -10,7 +10,7 @@ use Rattle.kind_words.specs.Kind.{offset-inside}
 
 pub small-counts : (C : Contract) → Established C → SmallCounts (C .output .states) (C .transformation .counts)
 small-counts C known =
-    record { states≤ = known .outputStates .≤most; procedures≤ = known .procedures .≤most; count≤ = known .count }
+    record { states≥ = known .outputStates .least≤; states≤ = known .outputStates .≤most; procedures≤ = known .procedures .≤most; count≤ = known .count }
 
 pub offsets-inside : (C : Contract) → Established C → (p : ℕ) → p < length (C .transformation .counts)
     → offset (C .output .states) (C .transformation .counts) p < mostFacts

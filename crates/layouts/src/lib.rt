@@ -89,7 +89,7 @@ pub fn layout_of(states: usize, counts: &[u16]) -> Layout
     ensures { λ r. ⌜ LayoutFor states (now (counts .entry)) (layoutOf r) ⌝ }
 {
     let greatest = greatest_count(counts);
-    let width = assignments(states as u64, greatest);
+    let width = assignments(states, greatest);
     let ones = lane_of_ones(width);
     let starts = starts_word(states, width);
     let first = parameter_word(states, width, first_weight(states as u64, greatest));

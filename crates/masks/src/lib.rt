@@ -1,7 +1,7 @@
 // The masks of what each symbol can see of a child's kind: the states that its input rows name on that side, and the facts of
 // the procedures that its rules call there.
 ghost use mathlib.Core.Path.{_≡_};
-ghost use Prim.Native.Nat.{suc, _+_, _*_, _^_, _<_, _≤_};
+ghost use Prim.Native.Nat.{_+_, _*_, _<_, _≤_};
 ghost use lib.ListN.{length};
 ghost use Rattle.foundation.specs.Tests.{choose};
 ghost use Rattle.tables.specs.Tuples.{inputRowOf, nodeOf};
@@ -11,7 +11,6 @@ ghost use Rattle.prepared.specs.Parts.{contractIn, listsIn, Ready};
 ghost use Rattle.classes.specs.Masks.{maskWords, maskIn, Covered};
 ghost use Rattle.masks.specs.Seen.{stateOn, stateBit, statesSeen, stored, Sees, AllSee};
 ghost use Rattle.masks.specs.Calls.{onesFor, withCall, CallFits, CallsFit, factsCalled, factsSeen};
-use blocks::assignments;
 use blocks::lane_of_ones;
 use blocks::no_facts;
 use blocks::put_block;
@@ -23,6 +22,7 @@ use lanes::place;
 use lanes::place_at;
 use lanes::up;
 use lanes::wide;
+use numbering::facts_of;
 use prepared::Prepared;
 use prepared::counts_in;
 use prepared::list_in;
@@ -92,21 +92,12 @@ fn states_seen(prepared: Prepared, table: &[u16], symbol: Symbol, on_right: bool
     )
 }
 
-// How many facts a procedure of that many parameters has.
-fn fact_count(output_states: usize, count: u16) -> u64
-    requires { ⌜ (1 ≤ «output_states») × («output_states» ≤ 4) × (count ≤ 2) ⌝ }
-    ensures { λ r. ⌜ r ≡ «output_states» ^ suc count ⌝ }
-{
-    let states = output_states as u64;
-    assignments(states, count) * states
-}
-
-// As many ones.
+// As many ones as a procedure of that many parameters has facts.
 fn ones_for(output_states: usize, count: u16) -> u64
     requires { ⌜ (1 ≤ «output_states») × («output_states» ≤ 4) × (count ≤ 2) ⌝ }
     ensures { λ r. ⌜ r ≡ onesFor «output_states» count ⌝ }
 {
-    let facts = fact_count(output_states, count);
+    let facts = facts_of(output_states, count) as u64;
     lane_of_ones(facts - 1) * 2 + 1
 }
 

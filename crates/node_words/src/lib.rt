@@ -34,7 +34,7 @@ fn procedure_word(layout: Layout, count: u16, number: usize, kind: &[u64; 6]) ->
     requires { ⌜ ProcedureFits (layoutOf layout) count number ⌝ }
     ensures { λ r. ⌜ r ≡ widened (layout .states) (layout .width) (layout .states ^ count) (factsFrom (now (kind .entry)) number) ⌝ }
 {
-    let narrow = assignments(layout.states as u64, count);
+    let narrow = assignments(layout.states, count);
     widen(
         layout.states,
         layout.width,

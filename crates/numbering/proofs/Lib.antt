@@ -1,2 +1,3 @@
--- Lemmas that the proofs of this crate's functions cite, and other crates' proofs too.
+-- Lemmas that the proofs of this crate's functions cite.
 pub mod Offsets
+pub mod PowerTable

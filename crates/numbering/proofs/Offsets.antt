@@ -1,8 +1,8 @@
 -- Offsets of facts: one procedure more, and bounds that keep every number of facts small.
 use mathlib.Core.Path.{_≡_, refl}
 use mathlib.Core.List.{List, [], _∷_}
-use Prim.Native.Nat.{ℕ, zero, suc, _+_, _*_, _^_, _<_, _≤_}
-use native.Mathlib.Nat.{not-suc-le-zero, le-of-suc-le-suc, le-trans, pow-suc, pow-le-pow-left, pow-le-pow-right}
+use Prim.Native.Nat.{ℕ, zero, suc, _+_, _^_, _<_, _≤_}
+use native.Mathlib.Nat.{not-suc-le-zero, le-of-suc-le-suc, le-trans, pow-le-pow-left, pow-le-pow-right}
 use native.Mathlib.Numerals.{add-one}
 use native.Mathlib.Omega.{arith}
 use lib.ListN.{length}
@@ -15,19 +15,15 @@ offset-zero O [] = refl
 offset-zero O (k ∷ counts) = refl
 
 -- the next offset is larger by the facts of the procedure passed
-pub offset-suc : (O : ℕ) (counts : List ℕ) (p : ℕ) → p < length counts → offset O counts (suc p) ≡ offset O counts p + O ^ suc (countOf counts p)
+offset-suc : (O : ℕ) (counts : List ℕ) (p : ℕ) → p < length counts → offset O counts (suc p) ≡ offset O counts p + O ^ suc (countOf counts p)
 unfolding offset
 offset-suc O [] p h = absurd (not-suc-le-zero h)
 offset-suc O (k ∷ counts) zero h = rw (offset-zero O counts) (omega arith)
 offset-suc O (k ∷ counts) (suc p) h = rw (offset-suc O counts p (le-of-suc-le-suc h)) (omega arith)
 
 -- at most four states: a power to the third is at most 64
-pub power-small : (O n : ℕ) → O ≤ 4 → n ≤ 3 → O ^ n ≤ 64
+power-small : (O n : ℕ) → O ≤ 4 → n ≤ 3 → O ^ n ≤ 64
 power-small O n o h = le-trans (pow-le-pow-left o n) (pow-le-pow-right {n = 4} (omega arith) h)
-
--- one factor more
-pub power-more : (O n : ℕ) → O ^ n * O ≡ O ^ (n + 1)
-power-more O n = rw (add-one, pow-suc O n)
 
 -- the facts of one more procedure
 pub offset-more : (O : ℕ) (counts : List ℕ) (p sum facts : ℕ) → p < length counts → sum ≡ offset O counts p → facts ≡ O ^ suc (countOf counts p)

@@ -1,2 +1,3 @@
--- What the numbering of facts asks of the parameter counts.
+-- What the numbering of facts asks of the parameter counts, and of the table of powers.
 pub mod Counts
+pub mod Powers

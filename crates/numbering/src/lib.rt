@@ -5,24 +5,40 @@ ghost use Prim.Native.Nat.{suc, _^_, _<_, _≤_};
 ghost use lib.ListN.{length};
 ghost use Rattle.model.specs.Facts.{offset, factTotal};
 ghost use Rattle.numbering.specs.Counts.{SmallCounts};
+ghost use Rattle.numbering.specs.Powers.{AllPowers};
 
-// `states` to the power `exponent`: the one place where a power is computed.
+// The table of the powers of O, the number of output states: for each O from 1 to 4, O to the powers 1, 2 and 3.
+fn powers() -> [u8; 12]
+    ensures { λ r. ⌜ AllPowers r ⌝ }
+{
+    [
+        1, // 1 ^ 1
+        1, // 1 ^ 2
+        1, // 1 ^ 3
+        2, // 2 ^ 1
+        4, // 2 ^ 2
+        8, // 2 ^ 3
+        3, // 3 ^ 1
+        9, // 3 ^ 2
+        27, // 3 ^ 3
+        4, // 4 ^ 1
+        16, // 4 ^ 2
+        64, // 4 ^ 3
+    ]
+}
+
+// `states` to the power `exponent`, read from the table.
 pub fn power(states: usize, exponent: usize) -> usize
-    requires { ⌜ (states ≤ 4) × (exponent ≤ 3) ⌝ }
+    requires { ⌜ (1 ≤ states) × (states ≤ 4) × (1 ≤ exponent) × (exponent ≤ 3) ⌝ }
     ensures { λ r. ⌜ r ≡ states ^ exponent ⌝ }
 {
-    let mut result = 1;
-    let mut i = 0;
-    while i < exponent {
-        result = result * states;
-        i += 1;
-    }
-    result
+    let table = powers();
+    table[(states - 1) * 3 + (exponent - 1)] as usize
 }
 
 // How many facts a procedure of `count` parameters has.
 pub fn facts_of(states: usize, count: u16) -> usize
-    requires { ⌜ (states ≤ 4) × (count ≤ 2) ⌝ }
+    requires { ⌜ (1 ≤ states) × (states ≤ 4) × (count ≤ 2) ⌝ }
     ensures { λ r. ⌜ r ≡ states ^ suc count ⌝ }
 {
     power(states, (count as usize) + 1)

@@ -2,14 +2,14 @@
 use mathlib.Core.Path.{_≡_, _∙_}
 use Prim.Native.Nat.{_-_, _^_, _≤_, _<_}
 use native.Mathlib.Omega.{arith}
-use Rattle.lanes.proofs.Room.{square-small, power-small, pow-some, quotient}
+use Rattle.lanes.proofs.Room.{power-small, pow-some, quotient}
 use Rattle.kinds.proofs.rule_block.Statement.{statement}
 use Rattle.kinds.proofs.rule_block.Tie as tie
 
 assignments-requires : tie.Need-assignments-requires
 assignments-requires c κs =
     let pre = c .pre in
-    (pre .1, omega (arith, square-small (c .args .layout .states) (pre .0 .few)))
+    (pre .0 .some, pre .0 .few, pre .1)
 
 div-narrow-word : tie.Need-div-narrow-word
 div-narrow-word c =

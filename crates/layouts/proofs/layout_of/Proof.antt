@@ -4,7 +4,7 @@ use Prim.Native.Nat.{_-_, _^_, _≤_}
 use native.Mathlib.Omega.{arith}
 use native.Mathlib.Nat.{one-le-pow}
 use borrow.Author.Needs.{needs}
-use Rattle.lanes.proofs.Room.{square-small, power-small}
+use Rattle.lanes.proofs.Room.{power-small}
 use Rattle.kind_words.specs.Kind.{lanes-fit}
 use Rattle.layouts.specs.LaneWords.{lanes-are, weight-some}
 use Rattle.layouts.proofs.layout_of.Statement.{statement}
@@ -14,7 +14,7 @@ greatest-count-requires : tie.Need-greatest-count-requires
 greatest-count-requires c κs = search needs
 
 assignments-requires : tie.Need-assignments-requires
-assignments-requires c κs = (c .greatest-count .ensures .most, omega (arith, square-small (c .before .before .args .states) (c .before .before .pre .1 .states≤)))
+assignments-requires c κs = (c .before .before .pre .0, c .before .before .pre .1 .states≤, c .greatest-count .ensures .most)
 
 lane-of-ones-requires : tie.Need-lane-of-ones-requires
 lane-of-ones-requires c κs =

@@ -3,14 +3,14 @@ use mathlib.Core.Path.{_≡_, _∙_}
 use Prim.Native.Nat.{_-_, _^_}
 use native.Mathlib.Omega.{arith}
 use borrow.Author.Needs.{needs}
-use Rattle.lanes.proofs.Room.{square-small, power-small, pow-some}
+use Rattle.lanes.proofs.Room.{power-small, pow-some}
 use Rattle.node_words.proofs.procedure_word.Statement.{statement}
 use Rattle.node_words.proofs.procedure_word.Tie as tie
 
 assignments-requires : tie.Need-assignments-requires
 assignments-requires c κs =
     let pre = c .pre in
-    (pre .parameters, omega (arith, square-small (c .args .layout .states) (pre .layout .few)))
+    (pre .layout .some, pre .layout .few, pre .parameters)
 
 lane-of-ones-requires : tie.Need-lane-of-ones-requires
 lane-of-ones-requires c κs =

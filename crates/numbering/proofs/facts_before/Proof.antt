@@ -24,7 +24,9 @@ shared-slice-read-facts-of : tie.Need-shared-slice-read-facts-of Inv-loop μ-loo
 shared-slice-read-facts-of c = omega arith
 
 facts-of-requires : tie.Need-facts-of-requires Inv-loop μ-loop
-facts-of-requires c κs = (c .before .before .before .before .pre .0 .states≤, c .before .before .before .before .pre .0 .count≤ (c .before .before .loop .p))
+facts-of-requires c κs =
+    let small = c .before .before .before .before .pre .0 in
+    (small .states≥, small .states≤, small .count≤ (c .before .before .loop .p))
 
 add-sum : tie.Need-add-sum Inv-loop μ-loop
 add-sum c =

@@ -1,36 +1,43 @@
--- `power`: the result is the power passed so far, and the measure is the exponents left; four states to the third are 64.
-use mathlib.Core.Path.{_≡_, sym, ap, _∙_}
-use Prim.Native.Nat.{ℕ, _+_, _*_, _-_, _^_, _≤_}
-use native.Mathlib.Nat.{pow-zero}
+-- `power` reads the entry of O and the exponent, which the test over the table makes their power.
 use native.Mathlib.Omega.{arith}
-use Rattle.numbering.proofs.Offsets.{power-small, power-more}
+use borrow.Author.Needs.{needs}
+use Rattle.numbering.proofs.PowerTable.{power-is}
 use Rattle.numbering.proofs.power.Statement.{statement}
 use Rattle.numbering.proofs.power.Tie as tie
 
-abbrev Inv-loop : tie.InvT-loop
-Inv-loop states exponent result₀ i₀ result i = (i ≤ exponent) × (result ≡ states ^ i)
+powers-requires : tie.Need-powers-requires
+powers-requires c κs = search needs
 
-abbrev μ-loop : tie.MeasureT-loop
-μ-loop states exponent result₀ i₀ result i = exponent - i
+sub-result : tie.Need-sub-result
+sub-result c = search needs
 
-loop-holds : tie.Need-loop-holds Inv-loop μ-loop
-loop-holds c = (omega arith, sym (pow-zero (c .args .states)))
+mul-result : tie.Need-mul-result
+mul-result c = search needs
 
-mul-result : tie.Need-mul-result Inv-loop μ-loop
-mul-result c = let e = c .before .loop .inv .1 in rw e (rw (power-more (c .before .before .args .states) (c .before .loop .i)) (omega (arith, power-small (c .before .before .args .states) (c .before .loop .i + 1) (c .before .before .pre .0) (omega arith))))
+sub-result-2 : tie.Need-sub-result-2
+sub-result-2 c = search needs
 
-add-i : tie.Need-add-i Inv-loop μ-loop
-add-i c = omega arith
+add-result : tie.Need-add-result
+add-result c = search needs
 
-loop-less : tie.Need-loop-less Inv-loop μ-loop
-loop-less c = omega arith
+array-read-result : tie.Need-array-read-result
+array-read-result c = search needs
 
-loop-again : tie.Need-loop-again Inv-loop μ-loop
-loop-again c = (omega arith, ap (λ (n : ℕ). n * c .before .before .args .states) (c .before .loop .inv .1) ∙ power-more (c .before .before .args .states) (c .before .loop .i))
+cast-result : tie.Need-cast-result
+cast-result c = search needs
 
-returns : tie.Need-returns Inv-loop μ-loop
-returns c = let end : c .before .loop .i ≡ c .before .before .args .exponent = omega arith in rw (← end) (c .before .loop .inv .1)
+returns : tie.Need-returns
+returns c = power-is (c .powers .result) (c .powers .ensures) _ _ _ (omega arith) (omega arith) (omega arith)
 
 pub power-spec : {M : Type 1} → statement M
 power-spec =
-    tie.close (tie.spec Inv-loop μ-loop loop-holds mul-result add-i loop-less loop-again returns)
+    tie.close
+    (tie.spec
+    powers-requires
+    sub-result
+    mul-result
+    sub-result-2
+    add-result
+    array-read-result
+    cast-result
+    returns)
