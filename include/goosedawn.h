@@ -56,19 +56,24 @@ typedef struct {
     const uint16_t *nodes, size_t nodes_length, \
     const uint16_t *rules, size_t rules_length
 
-/* Admits a contract. Answers ADMITTED, or the first refusal that applies, with its lowest place:
+/* Admits a contract. Answers ADMITTED, or the first of these refusals that applies, in this order, with its lowest place:
  *   1  a size is out of range: 0 symbols, 1 input states, 2 output states, 3 procedures
  *   2  a table's length: 0 input rows, 1 input marks, 2 output table, 3 output marks, 4 nodes, 5 rules
  *   3  a bad input row: the row
  *   4  a mark above 1 or an output entry that is no state: the index through input marks, output table and output
  *      marks laid end to end
  *   5  a parameter count above 2, or procedure 0 with parameters: the procedure
- *   6  a bad node: the node
+ *   30 to 34  what is wrong with the lowest bad node, the lowest number that applies: the node
+ *      30  its tag is not 0, 1 or 2
+ *      31  its name is no parameter (1 or 2), no symbol or no procedure
+ *      32  it is a call, and its child is not 1 or 2
+ *      33  a node that it refers to is not below it
+ *      34  a field that it does not use is not 0
  *   7  a bad rule: the rule
  *   8  over 256 facts: how many there are */
 goosedawn_reply goosedawn_admit(GOOSEDAWN_CONTRACT);
 
-/* Judges a document by a contract. Refusals 1 to 8, then
+/* Judges a document by a contract. The refusals of goosedawn_admit, then
  *   9   the kind buffer is not five words: 0
  *   11  over 1023 numbers: how many there are
  *   12  the first number that is no symbol or stands after the tree, or the length if the tree has not ended
@@ -78,7 +83,8 @@ goosedawn_reply goosedawn_admit(GOOSEDAWN_CONTRACT);
 goosedawn_reply goosedawn_judge(GOOSEDAWN_CONTRACT, const uint16_t *numbers, size_t numbers_length, uint64_t *kind,
                                 size_t kind_length);
 
-/* Checks a contract for all documents at once, listing at most `limit` kinds of trees. Refusals 1 to 8, then
+/* Checks a contract for all documents at once, listing at most `limit` kinds of trees. The refusals of
+ * goosedawn_admit, then
  *   9   the limit is not 1 to 512, the row buffer not 3 x limit numbers, the word buffer not 5 x limit words: 0, 1, 2
  * which write nothing. Otherwise
  *   PASS  no document of the input type has an output outside the output type: rows and words of all kinds stand
@@ -89,7 +95,8 @@ goosedawn_reply goosedawn_judge(GOOSEDAWN_CONTRACT, const uint16_t *numbers, siz
 goosedawn_reply goosedawn_check(GOOSEDAWN_CONTRACT, size_t limit, uint16_t *rows, size_t rows_length, uint64_t *words,
                                 size_t words_length);
 
-/* Runs a contract's transformation on a document, taking for each call the first rule listed. Refusals 1 to 8, then
+/* Runs a contract's transformation on a document, taking for each call the first rule listed. The refusals of
+ * goosedawn_admit, then
  *   9   the row buffer's length is no multiple of three or above 12288: 0
  *   11, 12  as in judging
  * which write nothing; then, whichever comes first in the order of work, with the row buffer all 0,

@@ -19,14 +19,16 @@ fn valid_contracts_are_admitted() {
 #[test]
 fn damage_meets_every_refusal() {
     let mut random = Random::new(2);
-    let mut seen = [0; 9];
+    let mut seen = [0; 35];
     for _ in 0..6000 {
         let whole = valid(&mut random, Size::Small);
         if let Answer::Refused { number, .. } = Model.admit(&damaged(&mut random, whole)) {
             seen[number as usize] += 1;
         }
     }
-    assert!(seen[1..8].iter().all(|&times| times > 0), "{seen:?}");
+    let mut due = (1..=5).chain([7]).chain(30..=34);
+    assert!(due.all(|number| seen[number] > 0), "{seen:?}");
+    assert_eq!(seen[6], 0, "30 to 34 say what 6 did not");
 }
 
 #[test]

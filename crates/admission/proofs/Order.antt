@@ -1,6 +1,5 @@
--- Which refusal is given: that of the first part that refuses, where those before it are fine; and what the stages that
--- are passed establish for the next one.
-use mathlib.Core.Path.{_≡_, sym, ap, _∙_}
+-- Admission is its stages, one after another; and what the stages that are passed establish for the next one.
+use mathlib.Core.Path.{_≡_, _∙_}
 use mathlib.Core.List.{List, []}
 use Prim.Native.Nat.{ℕ, _+_, _*_, _-_, _<_, _≤_}
 use native.Mathlib.Nat.{mul-le-mul}
@@ -10,45 +9,17 @@ use lib.Dec.{ltb}
 use lib.ListN.{length}
 use Rattle.model.specs.Tables.{Contract, contract, nodeAt, nodeCount}
 use Rattle.model.specs.Facts.{factTotal}
-use Rattle.model.specs.Answers.{Verdict, fine, refused, _then_, refuseIf, refuseFirst, Answer, admitted, refusal}
-use Rattle.model.specs.Admission.{nodeWrong, mostFacts, sizes, lengths, inputRows, entries, counts, nodes, rules, facts, admission, admit}
-use Rattle.model.proofs.Laws.Answers.{refuse-if-refused, refuse-if-passed, then-fine-left, then-fine-right, then-assoc, given-fine, given-refused, given-passed, given-stopped, given-admitted}
+use Rattle.model.specs.Answers.{Verdict, fine, refused, _then_, refuseIf, refuseLowest}
+use Rattle.model.specs.Admission.{nodeFault, mostFacts, admittedUnless, sizes, lengths, inputRows, entries, counts, nodes, rules, facts, admission, admit}
+use Rattle.model.proofs.Laws.Answers.{refuse-if-refused, refuse-if-passed, then-fine-left, then-fine-right, then-assoc}
 use Rattle.model.proofs.Laws.Admitted.{sizes-good, input-marks-long, output-table-long, output-marks-long, nodes-whole, nodes-good, counts-good}
 use Rattle.model.proofs.Laws.Established.{GoodNodes}
-use Rattle.answers.specs.declared.ContractFault.{ContractFault}
-use Rattle.answers.specs.declared.AdmissionAnswer.{AdmissionAnswer}
-use Rattle.answers.specs.declared.AdmissionAnswer.the-variants.{Admitted, Refused}
-use Rattle.answers.specs.Numbers.{admissionAnswer}
 use Rattle.numbering.specs.Counts.{SmallCounts}
-use Rattle.admission.proofs.Answered.{refused-as}
-use Rattle.admission.specs.Stages.{answerOf, shape, types, expressions}
-
-pub answer-refused : (v w : Verdict) (number place : ℕ) → v ≡ refused number place → refusal number place ≡ answerOf (v then w)
-answer-refused v w number place e = sym (given-stopped refusal admitted v w number place e)
-
-pub answer-passed : (v w : Verdict) (a : Answer) → v ≡ fine → a ≡ answerOf w → a ≡ answerOf (v then w)
-answer-passed v w a e h = h ∙ sym (given-passed refusal admitted v w e)
-
-pub answer-last : (v : Verdict) (number place : ℕ) → v ≡ refused number place → refusal number place ≡ answerOf v
-answer-last v number place e = sym (given-refused refusal admitted v number place e)
-
-pub answer-fine : (v : Verdict) → v ≡ fine → admitted ≡ answerOf v
-answer-fine v e = sym (given-fine refusal admitted v e)
-
--- a stage that admits refuses nothing
-pub stage-passed : (a : AdmissionAnswer) (v : Verdict) → a ≡ Admitted → admissionAnswer a ≡ answerOf v → v ≡ fine
-stage-passed a v e h = given-admitted v (sym h ∙ ap admissionAnswer e)
-
--- what a stage refuses stays refused, whatever comes after
-pub stage-refused : (a : AdmissionAnswer) (f : ContractFault) (v w : Verdict) → a ≡ Refused f → admissionAnswer a ≡ answerOf v
-    → admissionAnswer a ≡ answerOf (v then w)
-stage-refused a f v w e h =
-    let r = refused-as f v (sym (ap admissionAnswer e) ∙ h) in
-    ap admissionAnswer e ∙ r .says ∙ answer-refused v w (r .number) (r .place) (r .verdict)
+use Rattle.admission.specs.Stages.{shape, types, expressions}
 
 -- nodes none of which is bad
 pub good-nodes : (S : ℕ) (cs ns : List ℕ) → nodeCount ns ≤ 256
-    → refuseFirst 6 (λ n. nodeWrong S cs n (nodeAt ns n)) (nodeCount ns) ≡ fine
+    → refuseLowest (λ k. nodeFault S cs k (nodeAt ns k)) (nodeCount ns) ≡ fine
     → GoodNodes cs ns
 unfolding nodes
 good-nodes S cs ns few e = record { symbols = S; few = few; node = nodes-good (contract S 0 0 cs [] [] [] [] ns []) e }
@@ -73,7 +44,7 @@ module _ (S I O : ℕ) (cs rows inputMarks table outputMarks ns rs : List ℕ) w
   typesVerdict = types S I O cs rows inputMarks table outputMarks
 
   -- admission is its stages, one after another
-  pub stages : admit C ≡ answerOf (shapeVerdict then typesVerdict then expressions S O cs ns rs)
+  pub stages : admit C ≡ admittedUnless (shapeVerdict then typesVerdict then expressions S O cs ns rs)
   unfolding admit admission shape types expressions sizes lengths inputRows entries counts nodes rules facts
   stages =
       rw (

@@ -2,12 +2,8 @@
 use mathlib.Core.List.{List, []}
 use Prim.Native.Nat.{ℕ}
 use Rattle.model.specs.Tables.{contract}
-use Rattle.model.specs.Answers.{Verdict, _then_, refuseFirst, Answer, admitted, refusal, given}
+use Rattle.model.specs.Answers.{Verdict, _then_, refuseFirst}
 use Rattle.model.specs.Admission.{sizeWrong, lengthWrong, inputRows, entries, counts, nodes, rules, facts}
-
--- the refusal, or that nothing is refused
-abbrev pub answerOf : Verdict → Answer
-answerOf verdict = given verdict refusal admitted
 
 -- refusals 1 and 2, which look at sizes and lengths alone
 unfoldable pub shape : (S I O P : ℕ) (inputRows inputMarks outputTable outputMarks nodes rules : ℕ) → Verdict
@@ -20,6 +16,6 @@ unfoldable pub types : (S I O : ℕ) (counts inputRows inputMarks outputTable ou
 types S I O cs rows inputMarks table outputMarks =
     let C = contract S I O cs rows inputMarks table outputMarks [] [] in inputRows C then entries C then counts C
 
--- refusals 6 to 8, whatever the types are
+-- refusals 30 to 34, 7 and 8, whatever the types are
 unfoldable pub expressions : (S O : ℕ) (counts nodes rules : List ℕ) → Verdict
 expressions S O cs ns rs = let C = contract S 0 O cs [] [] [] [] ns rs in nodes C then rules C then facts C

@@ -2,7 +2,7 @@
 //
 // It goes in three stages, each of which relies on those before it: sizes and lengths; types and counts; expressions, rules and
 // the number of facts.
-use admission_expressions::nodes::first_bad_node;
+use admission_expressions::nodes::admit_nodes;
 use admission_expressions::rules::first_bad_rule;
 use admission_tables::entries::first_bad_count;
 use admission_tables::entries::first_bad_entry;
@@ -19,9 +19,10 @@ ghost use Prim.Native.Nat.{_+_, _≤_};
 ghost use lib.ListN.{length};
 ghost use Rattle.model.specs.Tables.{contract, nodeCount};
 ghost use Rattle.model.specs.Admission as model;
+ghost use Rattle.model.specs.Admission.{admittedUnless};
 ghost use Rattle.answers.specs.Numbers.{admissionAnswer};
 ghost use Rattle.numbering.specs.Counts.{SmallCounts};
-ghost use Rattle.admission.specs.Stages.{answerOf, shape, types, expressions};
+ghost use Rattle.admission.specs.Stages.{shape, types, expressions};
 
 // Refusals 1 and 2: the sizes, and the lengths of the tables.
 fn admit_shape(
@@ -31,7 +32,7 @@ fn admit_shape(
     procedures: usize,
     lengths: Lengths,
 ) -> AdmissionAnswer
-    ensures { λ r. ⌜ admissionAnswer r ≡ answerOf (shape symbols «input_states» «output_states» procedures (lengths .«input_rows») (lengths .«input_marks»)
+    ensures { λ r. ⌜ admissionAnswer r ≡ admittedUnless (shape symbols «input_states» «output_states» procedures (lengths .«input_rows») (lengths .«input_marks»)
         (lengths .«output_table») (lengths .«output_marks») (lengths .nodes) (lengths .rules)) ⌝ }
 {
     let size = first_bad_size(symbols, input_states, output_states, procedures);
@@ -58,7 +59,7 @@ fn admit_types(
 ) -> AdmissionAnswer
     requires { ⌜ length (now «input_marks») + length (now «output_table») + length (now «output_marks») ≤ 512 ⌝ }
     requires { ⌜ length (now counts) ≤ 16 ⌝ }
-    ensures { λ r. ⌜ admissionAnswer r ≡ answerOf (types symbols «input_states» «output_states» (now (counts .entry)) (now («input_rows» .entry))
+    ensures { λ r. ⌜ admissionAnswer r ≡ admittedUnless (types symbols «input_states» «output_states» (now (counts .entry)) (now («input_rows» .entry))
         (now («input_marks» .entry)) (now («output_table» .entry)) (now («output_marks» .entry))) ⌝ }
 {
     let row = first_bad_input_row(symbols, input_states, input_rows);
@@ -76,7 +77,7 @@ fn admit_types(
     AdmissionAnswer::Admitted
 }
 
-// Refusals 6 to 8: nodes, rules and the number of facts.
+// Refusals 30 to 34, 7 and 8: nodes, rules and the number of facts.
 fn admit_expressions(
     symbols: usize,
     output_states: usize,
@@ -86,12 +87,12 @@ fn admit_expressions(
 ) -> AdmissionAnswer
     requires { ⌜ SmallCounts «output_states» (now counts) ⌝ }
     requires { ⌜ nodeCount (now nodes) ≤ 256 ⌝ }
-    ensures { λ r. ⌜ admissionAnswer r ≡ answerOf (expressions symbols «output_states» (now (counts .entry)) (now (nodes .entry)) (now (rules .entry))) ⌝ }
+    ensures { λ r. ⌜ admissionAnswer r ≡ admittedUnless (expressions symbols «output_states» (now (counts .entry)) (now (nodes .entry)) (now (rules .entry))) ⌝ }
 {
-    let node = first_bad_node(symbols, counts, nodes);
-    if node < nodes.len() / 5 {
-        return AdmissionAnswer::Refused(ContractFault::Node(node));
-    }
+    let checked = admit_nodes(symbols, counts, nodes);
+    let AdmissionAnswer::Admitted = checked else {
+        return checked;
+    };
     let rule = first_bad_rule(symbols, counts, nodes, rules);
     if rule < rules.len() / 3 {
         return AdmissionAnswer::Refused(ContractFault::Rule(rule));

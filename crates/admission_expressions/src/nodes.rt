@@ -1,4 +1,7 @@
-// Refusal 6: expression nodes.
+// Refusals 30 to 34: what is wrong with an expression node.
+use answers::AdmissionAnswer;
+use answers::ContractFault;
+use answers::NodeFault;
 use tables::Node;
 use tables::Procedure;
 use tables::Symbol;
@@ -7,9 +10,10 @@ use tables::procedure_wrong;
 use tables::reference_count;
 use tables::symbol_wrong;
 ghost use mathlib.Core.Path.{_≡_};
-ghost use Rattle.foundation.specs.Search.{first};
 ghost use Rattle.model.specs.Tables.{nodeAt, nodeCount};
-ghost use Rattle.model.specs.Admission.{nameWrong, childWrong, referenceWrong, unusedFilled, nodeWrong};
+ghost use Rattle.model.specs.Admission.{nameWrong, childWrong, referenceWrong, unusedFilled, nodeFault, admittedUnless};
+ghost use Rattle.model.specs.Answers.{refuseLowest};
+ghost use Rattle.answers.specs.Numbers.{admissionAnswer};
 ghost use Rattle.tables.specs.Tuples.{nodeOf};
 
 // A node's name is no parameter, no symbol or no procedure.
@@ -50,28 +54,44 @@ fn unused_filled(counts: &[u16], node: Node) -> bool
         | ((used < 2) & !(node.second == 0))
 }
 
-// Node k is bad.
-fn node_wrong(symbols: usize, counts: &[u16], k: usize, node: Node) -> bool
-    ensures { λ r. ⌜ r ≡ nodeWrong symbols (now (counts .entry)) k (nodeOf node) ⌝ }
+// The first fault of node k, in the order of document 01's numbers, or none.
+fn admit_node(symbols: usize, counts: &[u16], k: usize, node: Node) -> AdmissionAnswer
+    ensures { λ r. ⌜ admissionAnswer r ≡ admittedUnless (nodeFault symbols (now (counts .entry)) k (nodeOf node)) ⌝ }
 {
-    (2 < node.tag)
-        | name_wrong(symbols, counts, node)
-        | child_wrong(node)
-        | reference_wrong(counts, k, node)
-        | unused_filled(counts, node)
+    let name = name_wrong(symbols, counts, node);
+    let child = child_wrong(node);
+    let reference = reference_wrong(counts, k, node);
+    let unused = unused_filled(counts, node);
+    if 2 < node.tag {
+        return AdmissionAnswer::Refused(ContractFault::Node(NodeFault::Tag, k));
+    }
+    if name {
+        return AdmissionAnswer::Refused(ContractFault::Node(NodeFault::Name, k));
+    }
+    if child {
+        return AdmissionAnswer::Refused(ContractFault::Node(NodeFault::Child, k));
+    }
+    if reference {
+        return AdmissionAnswer::Refused(ContractFault::Node(NodeFault::Reference, k));
+    }
+    if unused {
+        return AdmissionAnswer::Refused(ContractFault::Node(NodeFault::Unused, k));
+    }
+    AdmissionAnswer::Admitted
 }
 
-// The first bad node, or how many there are.
-pub fn first_bad_node(symbols: usize, counts: &[u16], nodes: &[u16]) -> usize
-    ensures { λ r. ⌜ r ≡ first (λ k. nodeWrong symbols (now (counts .entry)) k (nodeAt (now (nodes .entry)) k)) (nodeCount (now (nodes .entry))) ⌝ }
+// The fault of the lowest bad node, or none.
+pub fn admit_nodes(symbols: usize, counts: &[u16], nodes: &[u16]) -> AdmissionAnswer
+    ensures { λ r. ⌜ admissionAnswer r ≡ admittedUnless (refuseLowest (λ k. nodeFault symbols (now (counts .entry)) k (nodeAt (now (nodes .entry)) k)) (nodeCount (now (nodes .entry)))) ⌝ }
 {
     let n = nodes.len() / 5;
     let mut k = 0;
     while k < n {
-        if node_wrong(symbols, counts, k, node_at(nodes, k)) {
-            return k;
-        }
+        let node = admit_node(symbols, counts, k, node_at(nodes, k));
+        let AdmissionAnswer::Admitted = node else {
+            return node;
+        };
         k += 1;
     }
-    n
+    AdmissionAnswer::Admitted
 }

@@ -1,6 +1,9 @@
 -- "For an answer that is an enum, a definition gives this paper's number and values for each case."
+use Prim.Native.Nat.{ℕ}
 use Rattle.model.specs.Answers.{Answer, refusal, admitted, judged, pass, tree, ran, written}
 use Rattle.model.specs.Running.{mostCalls}
+use Rattle.answers.specs.declared.NodeFault.{NodeFault}
+use Rattle.answers.specs.declared.NodeFault.the-variants as node
 use Rattle.answers.specs.declared.ContractFault.{ContractFault}
 use Rattle.answers.specs.declared.ContractFault.the-variants as contract
 use Rattle.answers.specs.declared.DocumentFault.{DocumentFault}
@@ -18,14 +21,22 @@ use Rattle.answers.specs.declared.WritingAnswer.the-variants as writing
 use Rattle.answers.specs.declared.numbered.Answer as code
 use Rattle.answers.specs.declared.numbered.Answer.the-variants as answer
 
--- refusals 1 to 8
+-- "30 tag, 31 name, 32 child, 33 a reference not below the node, 34 unused field filled"
+abbrev pub nodeNumber : NodeFault → ℕ
+nodeNumber node.Tag = 30
+nodeNumber node.Name = 31
+nodeNumber node.Child = 32
+nodeNumber node.Reference = 33
+nodeNumber node.Unused = 34
+
+-- refusals 1 to 8, of which 6 has become 30 to 34
 abbrev pub contractRefusal : ContractFault → Answer
 contractRefusal (contract.Size place) = refusal 1 place
 contractRefusal (contract.Length place) = refusal 2 place
 contractRefusal (contract.InputRow row) = refusal 3 row
 contractRefusal (contract.Entry index) = refusal 4 index
 contractRefusal (contract.Count procedure) = refusal 5 (procedure .0)
-contractRefusal (contract.Node node) = refusal 6 node
+contractRefusal (contract.Node fault at) = refusal (nodeNumber fault) at
 contractRefusal (contract.Rule rule) = refusal 7 rule
 contractRefusal (contract.Facts total) = refusal 8 total
 

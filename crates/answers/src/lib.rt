@@ -4,6 +4,20 @@ pub mod numbered;
 
 use tables::Procedure;
 
+// What is wrong with an expression node.
+pub enum NodeFault {
+    // It is no parameter, no output symbol and no call.
+    Tag,
+    // What it names is no parameter, no symbol or no procedure.
+    Name,
+    // A call goes to no child.
+    Child,
+    // It refers to a node that is not below it.
+    Reference,
+    // A field that it does not use is not 0.
+    Unused,
+}
+
 // Why a contract is not admitted, with the place.
 pub enum ContractFault {
     // Symbols, input states, output states or procedures are too few or too many.
@@ -16,8 +30,8 @@ pub enum ContractFault {
     Entry(usize),
     // The procedure of a bad parameter count.
     Count(Procedure),
-    // A bad expression node.
-    Node(usize),
+    // What is wrong with an expression node, and the node.
+    Node(NodeFault, usize),
     // A bad rule.
     Rule(usize),
     // More facts than a kind has room for: how many there are.

@@ -1,11 +1,12 @@
 // An answer of any of the five operations, in document 01's numbers.
 ghost use mathlib.Core.Path.{_≡_};
-ghost use Rattle.answers.specs.Numbers.{numbered, contractRefusal, documentRefusal, admissionAnswer, judgingAnswer, checkingAnswer, runningAnswer, writingAnswer};
+ghost use Rattle.answers.specs.Numbers.{numbered, nodeNumber, contractRefusal, documentRefusal, admissionAnswer, judgingAnswer, checkingAnswer, runningAnswer, writingAnswer};
 use crate::AdmissionAnswer;
 use crate::CheckingAnswer;
 use crate::ContractFault;
 use crate::DocumentFault;
 use crate::JudgingAnswer;
+use crate::NodeFault;
 use crate::RunningAnswer;
 use crate::WritingAnswer;
 
@@ -20,6 +21,18 @@ pub enum Answer {
     Refused(usize, usize),
 }
 
+fn node_number(fault: NodeFault) -> usize
+    ensures { λ r. ⌜ r ≡ nodeNumber fault ⌝ }
+{
+    match fault {
+        NodeFault::Tag => 30,
+        NodeFault::Name => 31,
+        NodeFault::Child => 32,
+        NodeFault::Reference => 33,
+        NodeFault::Unused => 34,
+    }
+}
+
 fn of_contract(fault: ContractFault) -> Answer
     ensures { λ r. ⌜ numbered r ≡ contractRefusal fault ⌝ }
 {
@@ -29,7 +42,7 @@ fn of_contract(fault: ContractFault) -> Answer
         ContractFault::InputRow(row) => Answer::Refused(3, row),
         ContractFault::Entry(index) => Answer::Refused(4, index),
         ContractFault::Count(procedure) => Answer::Refused(5, procedure.0 as usize),
-        ContractFault::Node(node) => Answer::Refused(6, node),
+        ContractFault::Node(fault, node) => Answer::Refused(node_number(fault), node),
         ContractFault::Rule(rule) => Answer::Refused(7, rule),
         ContractFault::Facts(total) => Answer::Refused(8, total),
     }

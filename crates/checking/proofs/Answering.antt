@@ -16,7 +16,8 @@ use Rattle.answers.specs.Numbers.{contractRefusal, admissionAnswer}
 use Rattle.answers.specs.declared.AdmissionAnswer.{AdmissionAnswer}
 use Rattle.answers.specs.declared.AdmissionAnswer.the-variants as admission-answer
 use Rattle.answers.specs.declared.ContractFault.{ContractFault}
-use Rattle.admission.proofs.Answered.{refused-as, admitted-fine}
+use Rattle.answers.proofs.Answered.{refused-as}
+use Rattle.admission.proofs.Answered.{admitted-fine}
 use Rattle.kind_lists.specs.Listing.{Room}
 use Rattle.kind_lists.specs.Closing.{Gives}
 use Rattle.classes.specs.Masks.{Covered}

@@ -21,7 +21,7 @@ use Rattle.answers.specs.declared.ContractFault.{ContractFault}
 use Rattle.answers.specs.declared.DocumentFault.{DocumentFault}
 use Rattle.answers.specs.declared.DocumentFault.the-variants as document-fault
 use Rattle.reading.specs.Answers.{faultVerdict}
-use Rattle.admission.proofs.Answered.{refused-as}
+use Rattle.answers.proofs.Answered.{refused-as}
 use Rattle.breaking.specs.declared.Verdicts.{Verdicts}
 use Rattle.breaking.specs.Verdicts.{VerdictsOf, accepting, breaking, accepting-is, breaking-is}
 use Rattle.document_kinds.specs.Stored.{kind-taken}

@@ -8,7 +8,7 @@ use Rattle.foundation.specs.Tests.{choose}
 use Rattle.model.specs.Tables.{Contract, InputRow, inputRow, inputRowCount, Node, nodeAt, nodeCount, Rule, ruleAt, ruleCount, countOf, markAt}
 use Rattle.model.specs.Expressions.{expression, greatestParameter, holdsCall}
 use Rattle.model.specs.Facts.{factTotal}
-use Rattle.model.specs.Answers.{Verdict, refuseIf, refuseFirst, _then_, Answer, admitted, refusal, given}
+use Rattle.model.specs.Answers.{Verdict, refuseIf, refuseFirst, refuseLowest, _then_, Answer, admitted, refusal, given}
 
 abbrev pub outside : (least most : ℕ) → ℕ → Bool
 outside least most n = ltb n least || ltb most n
@@ -60,33 +60,38 @@ abbrev pub references : List ℕ → Node → ℕ
 references counts n =
     choose (eqb (n .tag) 1) (choose (eqb (n .name) 0) 0 2) (choose (eqb (n .tag) 2) (countOf counts (n .name)) 0)
 
+-- "30 tag": "Tag 0 is parameter name", "Tag 1 is output symbol name", "Tag 2 calls procedure name"
 abbrev pub tagWrong : Node → Bool
 tagWrong n = ltb 2 (n .tag)
 
--- "parameter name, 1 or 2", "output symbol name", "calls procedure name"
+-- "31 name": "parameter name, 1 or 2", "output symbol name", "calls procedure name"
 abbrev pub nameWrong : ℕ → List ℕ → Node → Bool
 nameWrong S counts n =
     choose (eqb (n .tag) 0) (outside 1 2 (n .name)) (choose (eqb (n .tag) 1) (leb S (n .name)) (leb (length counts) (n .name)))
 
--- "on child 1 (left) or 2 (right)"
+-- "32 child": "on child 1 (left) or 2 (right)", and "Only a call's child is 32"
 abbrev pub childWrong : Node → Bool
 childWrong n = eqb (n .tag) 2 && outside 1 2 (n .child)
 
--- "smaller node numbers"
+-- "33 a reference not below the node": "smaller node numbers"
 abbrev pub referenceWrong : List ℕ → ℕ → Node → Bool
 referenceWrong counts k n =
     (leb 1 (references counts n) && leb k (n .first)) || (leb 2 (references counts n) && leb k (n .second))
 
--- "unused fields 0"
+-- "34 unused field filled": "unused fields 0", and "elsewhere a filled child is 34"
 abbrev pub unusedFilled : List ℕ → Node → Bool
 unusedFilled counts n =
     (not (eqb (n .tag) 2) && not (eqb (n .child) 0)) || (ltb (references counts n) 1 && not (eqb (n .first) 0))
     || (ltb (references counts n) 2 && not (eqb (n .second) 0))
 
--- node k is bad
-abbrev pub nodeWrong : ℕ → List ℕ → ℕ → Node → Bool
-nodeWrong S counts k n =
-    tagWrong n || nameWrong S counts n || childWrong n || referenceWrong counts k n || unusedFilled counts n
+-- what is wrong with node k, "in the order of the numbers"; a node without a fault is good
+unfoldable pub nodeFault : ℕ → List ℕ → ℕ → Node → Verdict
+nodeFault S counts k n =
+    refuseIf (tagWrong n) 30 k
+    then refuseIf (nameWrong S counts n) 31 k
+    then refuseIf (childWrong n) 32 k
+    then refuseIf (referenceWrong counts k n) 33 k
+    then refuseIf (unusedFilled counts n) 34 k
 
 -- "The node uses, directly or below, no parameter above the procedure's count; under symbol 0 it holds no call."
 abbrev pub ruleWrong : ℕ → (counts nodes : List ℕ) → Rule → Bool
@@ -98,6 +103,10 @@ ruleWrong S counts nodes r =
 -- "At most 256 facts in all."
 abbrev pub mostFacts : ℕ
 mostFacts = 256
+
+-- the refusal, or "the contract is admitted, with no number"
+abbrev pub admittedUnless : Verdict → Answer
+admittedUnless verdict = given verdict refusal admitted
 
 module _ (C : Contract) where
   -- "1, a size out of range (place 0 to 3: symbols, input states, output states, procedures)"
@@ -130,10 +139,10 @@ module _ (C : Contract) where
   unfoldable pub counts : Verdict
   counts = refuseFirst 5 (countWrong (C .transformation .counts)) (length (C .transformation .counts))
 
-  -- "6, a bad node (node)"
+  -- "Name the fault of the lowest bad node", "at 6's place in the order"
   unfoldable pub nodes : Verdict
   nodes =
-      refuseFirst 6 (λ n. nodeWrong (C .transformation .symbols) (C .transformation .counts) n (nodeAt (C .transformation .nodes) n))
+      refuseLowest (λ k. nodeFault (C .transformation .symbols) (C .transformation .counts) k (nodeAt (C .transformation .nodes) k))
       (nodeCount (C .transformation .nodes))
 
   -- "7, a bad rule (rule)"
@@ -152,4 +161,4 @@ module _ (C : Contract) where
 
   -- "Otherwise the contract is admitted, with no number. Nothing is written."
   unfoldable pub admit : Answer
-  admit = given admission refusal admitted
+  admit = admittedUnless admission

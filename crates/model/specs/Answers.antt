@@ -1,6 +1,6 @@
 -- Answers: what an operation gives back, in document 01's numbers; and refusals, of which the first that applies is given.
 use mathlib.Core.Bool.{Bool}
-use Prim.Native.Nat.{ℕ}
+use Prim.Native.Nat.{ℕ, zero, suc}
 use lib.Dec.{ltb}
 use Rattle.foundation.specs.Tests.{choose}
 use Rattle.foundation.specs.Search.{first}
@@ -22,6 +22,11 @@ refuseIf test number place = choose test (refused number place) fine
 -- "lowest place": the first of n entries that is bad
 unfoldable pub refuseFirst : ℕ → (ℕ → Bool) → ℕ → Verdict
 refuseFirst number bad n = refuseIf (ltb (first bad n) n) number (first bad n)
+
+-- of n entries, each with a verdict of its own, the lowest that is refused
+unfoldable pub refuseLowest : (ℕ → Verdict) → ℕ → Verdict
+refuseLowest verdict zero = fine
+refuseLowest verdict (suc n) = refuseLowest verdict n then verdict n
 
 -- the answers of the five operations, with their values
 pub data Answer : Type 0 where

@@ -7,31 +7,30 @@ use mathlib.Core.Logic.{_↔_, _⊎_}
 use Prim.Native.Nat.{ℕ, _+_, _<_, _≤_}
 use lib.ListN.{length, getD}
 use Rattle.model.specs.Trees.{Tree, Over, preorder}
-use Rattle.model.specs.Tables.{Contract, inputRow, inputRowCount, nodeAt, nodeCount, ruleAt, ruleCount}
+use Rattle.model.specs.Tables.{Contract, inputRow, inputRowCount, Node, nodeAt, nodeCount, ruleAt, ruleCount}
 use Rattle.model.specs.Rows.{rowAt, rowCount, treeAt}
 use Rattle.model.specs.Facts.{factTotal}
 use Rattle.model.specs.Answers.{Verdict, fine, refused, refusal}
-use Rattle.model.specs.Admission.{sizeWrong, lengthWrong, inputRowWrong, entryWrong, countWrong, nodeWrong, ruleWrong, mostFacts, admit}
+use Rattle.model.specs.Admission.{sizeWrong, lengthWrong, inputRowWrong, entryWrong, countWrong, tagWrong, nameWrong, childWrong, referenceWrong, unusedFilled, ruleWrong, mostFacts, admit}
 use Rattle.model.specs.Documents.{mostNumbers, document, documentTree}
 use Rattle.model.specs.Judging.{judging}
 use Rattle.model.specs.Checking.{limitWrong, checking}
 use Rattle.model.specs.Running.{rowsWrong, running}
 use Rattle.model.specs.WritingOut.{rowWrong, writingOut}
 
--- a reason to refuse: the refusal's number, and what is wrong where it has that place
+-- a reason to refuse: what is wrong where the refusal has that number and that place
 pub record Reason : Type 1 where
-  pub number : ℕ
-  pub Wrong : (place : ℕ) → Type 0
+  pub Wrong : (number place : ℕ) → Type 0
 
 -- nothing is wrong
 abbrev pub NothingWrong : Reason → Type 0
-NothingWrong reason = (place : ℕ) → reason .Wrong place → ⊥
+NothingWrong reason = (number place : ℕ) → reason .Wrong number place → ⊥
 
 -- "Refusals, first that applies": of these reasons, in their order
 abbrev pub FirstReason : List Reason → (number place : ℕ) → Type 0
 FirstReason [] number place = ⊥
 FirstReason (reason ∷ reasons) number place =
-    ((number ≡ reason .number) × reason .Wrong place) ⊎ (NothingWrong reason × FirstReason reasons number place)
+    reason .Wrong number place ⊎ (NothingWrong reason × FirstReason reasons number place)
 
 abbrev pub NoReason : List Reason → Type 0
 NoReason [] = Unit {0}
@@ -48,12 +47,23 @@ pub record LowestPlace (bad : ℕ → Bool) (n place : ℕ) : Type 0 where
   pub isBad : bad place ≡ true
   pub noneBefore : (j : ℕ) → j < place → bad j ≡ false
 
+-- a reason with one number
+abbrev pub withNumber : ℕ → ((place : ℕ) → Type 0) → Reason
+withNumber number Wrong = record { Wrong = λ m place. (m ≡ number) × Wrong place }
+
 abbrev pub lowest : ℕ → (ℕ → Bool) → ℕ → Reason
-lowest number bad n = record { number = number; Wrong = LowestPlace bad n }
+lowest number bad n = withNumber number (LowestPlace bad n)
 
 -- something is wrong, with that one place
 abbrev pub only : ℕ → Type 0 → ℕ → Reason
-only number Holds place = record { number = number; Wrong = λ p. Holds × (p ≡ place) }
+only number Holds place = withNumber number (λ p. Holds × (p ≡ place))
+
+-- of n entries, each with its reasons, the lowest that has one: its first
+pub record LowestEntry (reasons : ℕ → List Reason) (n number place : ℕ) : Type 0 where
+  pub entry : ℕ
+  pub inside : entry < n
+  pub itsFirst : FirstReason (reasons entry) number place
+  pub noneBefore : (j : ℕ) → j < entry → NoReason (reasons j)
 
 -- "the tree has ended": the numbers begin with those of a tree over S, all of them before that place
 pub record EndedBefore (S : ℕ) (numbers : List ℕ) (place : ℕ) : Type 0 where
@@ -79,7 +89,7 @@ pub data Fault (S : ℕ) (numbers : List ℕ) (place : ℕ) : Type 0 where
 
 -- "11, over 1,023 numbers (the length); 12, .."
 abbrev pub documentReasons : ℕ → List ℕ → List Reason
-documentReasons S numbers = only 11 (mostNumbers < length numbers) (length numbers) ∷ record { number = 12; Wrong = Fault S numbers } ∷ []
+documentReasons S numbers = only 11 (mostNumbers < length numbers) (length numbers) ∷ withNumber 12 (Fault S numbers) ∷ []
 
 -- "A document is its symbols in preorder, 1 to 1,023 numbers.": the numbers of a tree over S
 pub record DocumentOf (S : ℕ) (numbers : List ℕ) (tree : Tree) : Type 0 where
@@ -93,6 +103,16 @@ pub record DocumentVerdict (S : ℕ) (numbers : List ℕ) : Type 0 where
   pub faulty : (place : ℕ) → (document S numbers ≡ refused 12 place) ↔ ((length numbers ≤ mostNumbers) × Fault S numbers place)
   pub whole : (document S numbers ≡ fine) ↔ ((tree : Tree) × DocumentOf S numbers tree)
   pub read : (tree : Tree) → DocumentOf S numbers tree → documentTree numbers ≡ tree
+
+-- "30 tag, 31 name, 32 child, 33 a reference not below the node, 34 unused field filled": the faults of node k
+abbrev pub nodeReasons : ℕ → List ℕ → ℕ → Node → List Reason
+nodeReasons S counts k n =
+    only 30 (tagWrong n ≡ true) k
+    ∷ only 31 (nameWrong S counts n ≡ true) k
+    ∷ only 32 (childWrong n ≡ true) k
+    ∷ only 33 (referenceWrong counts k n ≡ true) k
+    ∷ only 34 (unusedFilled counts n ≡ true) k
+    ∷ []
 
 module _ (C : Contract) where
   -- "Refusals, first that applies, lowest place"
@@ -115,9 +135,11 @@ module _ (C : Contract) where
       (length (C .input .marks) + length (C .output .table) + length (C .output .marks))
       -- "5, a parameter count above 2, or procedure 0 with parameters (procedure)"
       ∷ lowest 5 (countWrong (C .transformation .counts)) (length (C .transformation .counts))
-      -- "6, a bad node (node)"
-      ∷ lowest 6 (λ n. nodeWrong (C .transformation .symbols) (C .transformation .counts) n (nodeAt (C .transformation .nodes) n))
-      (nodeCount (C .transformation .nodes))
+      -- "Name the fault of the lowest bad node, in the order of the numbers below", "at 6's place in the order"
+      ∷ record {
+        Wrong = LowestEntry (λ k. nodeReasons (C .transformation .symbols) (C .transformation .counts) k (nodeAt (C .transformation .nodes) k))
+            (nodeCount (C .transformation .nodes));
+      }
       -- "7, a bad rule (rule)"
       ∷ lowest 7
       (λ r. ruleWrong (C .transformation .symbols) (C .transformation .counts) (C .transformation .nodes) (ruleAt (C .transformation .rules) r))
@@ -155,6 +177,10 @@ pub record Refuses (reasons : List Reason) (Answers : (number place : ℕ) → T
   pub exactly : (number place : ℕ) → Answers number place ↔ FirstReason reasons number place
   pub nothingWritten : (number place : ℕ) → Answers number place → closing ≡ lent
 
+-- a number that is none from least to most
+abbrev pub NotFrom : (least most : ℕ) → ℕ → Type 0
+NotFrom least most number = least ≤ number → number ≤ most → ⊥
+
 -- "a refusal carries a number and a place and leaves the lent buffers as document 01 states": the refusals of the five operations,
 -- but for checking's 10 and running's 13 to 15, which come of the work itself
 pub record OperationRefusals : Type 0 where
@@ -164,11 +190,11 @@ pub record OperationRefusals : Type 0 where
       (judging C numbers buffer .words ∷ [])
   pub ofChecking : (C : Contract) (L : ℕ) (rowBuffer wordBuffer : List ℕ)
       → Refuses (checkingReasons C L rowBuffer wordBuffer)
-      (λ number place. (checking C L rowBuffer wordBuffer .answer ≡ refusal number place) × (number ≤ 9))
+      (λ number place. (checking C L rowBuffer wordBuffer .answer ≡ refusal number place) × NotFrom 10 10 number)
       (rowBuffer ∷ wordBuffer ∷ [])
       (checking C L rowBuffer wordBuffer .rows ∷ checking C L rowBuffer wordBuffer .words ∷ [])
   pub ofRunning : (C : Contract) (numbers buffer : List ℕ)
-      → Refuses (runningReasons C numbers buffer) (λ number place. (running C numbers buffer .answer ≡ refusal number place) × (number ≤ 12))
+      → Refuses (runningReasons C numbers buffer) (λ number place. (running C numbers buffer .answer ≡ refusal number place) × NotFrom 13 15 number)
       (buffer ∷ [])
       (running C numbers buffer .rows ∷ [])
   pub ofWritingOut : (rows : List ℕ) (row : ℕ) (buffer : List ℕ)

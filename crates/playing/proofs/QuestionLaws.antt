@@ -1,19 +1,23 @@
 -- QuestionLaws: what a question makes of the state. A limit out of range, or a room above the most, is refused whatever
 -- buffers are lent, and nothing is then written.
 use mathlib.Core.Path.{_≡_, refl, ap, ap₂, sym, _∙_}
-use mathlib.Core.Bool.{Bool, true, false, not, _||_, true≢false}
+use mathlib.Core.Bool.{Bool, true, false, not, _&&_, _||_, true≢false}
 use mathlib.Core.List.{List, [], _++_}
 use Prim.Native.Nat.{ℕ, _*_, _-_, _%_, _≤_, _<_}
 use native.Mathlib.Omega.{arith}
-use lib.Dec.{eqb, ltb}
+use native.Mathlib.Decide.{decLt}
+use lib.Dec.{eqb, ltb, leb}
 use lib.ListN.{length, take, drop, length-replicate}
 use lib.Seq.{take-at, length-take-le}
-use borrow.Author.Tests.{lt-ltb, ltb-true, ltb-false, lt-leb, ne-eqb}
+use borrow.Author.Tests.{lt-ltb, ltb-true, ltb-false, lt-leb, le-leb, ne-eqb}
 use Rattle.foundation.specs.Tests.{choose}
 use Rattle.foundation.specs.Search.{first}
 use Rattle.model.specs.Tables.{Contract}
 use Rattle.model.specs.Answers.{Verdict, fine, refused, _then_, refuseIf, refuseFirst, Answer, refusal, given}
-use Rattle.model.specs.Admission.{sizes, lengths, inputRows, entries, counts, nodes, rules, facts, admission}
+use Rattle.model.specs.Admission.{admission}
+use Rattle.model.specs.Refusals.{NotFrom}
+use Rattle.model.proofs.Laws.Answers.{Numbers}
+use Rattle.model.proofs.Laws.Admitted.{admission-numbers}
 use Rattle.model.specs.Documents.{document}
 use Rattle.model.specs.Checking.{Checked, checking, checkingVerdict}
 use Rattle.model.specs.Running.{Ran, rowsWrong, running, runningVerdict}
@@ -30,42 +34,19 @@ use Rattle.playing.specs.Desks.{kept, stretch, span, tablesOf, leftOf, s
 use Rattle.playing.specs.Questions.{Asked, asked, Comes, Lends, questionStep, limitOut, roomOut, lentTo, leftAfter, Small, setsRows, deskAfter}
 use Rattle.playing.proofs.StateLaws.{agree-overwritten, tables-agree}
 
--- admission's refusals have the numbers 1 to 8
-abbrev Low : Verdict → Type 0
-Low fine = Unit {0}
-Low (refused number place) = number ≤ 8
-
-low-then : (a b : Verdict) → Low a → Low b → Low (a then b)
-unfolding _then_
-low-then fine b l m = m
-low-then (refused number place) b l m = l
-
-low-if : (b : Bool) {number : ℕ} (place : ℕ) → number ≤ 8 → Low (refuseIf b number place)
-unfolding refuseIf
-low-if true place h = h
-low-if false place h = tt
-
-low-first : {number : ℕ} (bad : ℕ → Bool) (n : ℕ) → number ≤ 8 → Low (refuseFirst number bad n)
-unfolding refuseFirst
-low-first bad n h = low-if (ltb (first bad n) n) (first bad n) h
-
-admission-low : (C : Contract) → Low (admission C)
-unfolding admission sizes lengths inputRows entries counts nodes rules facts
-admission-low C =
-    low-then _ _ (low-first _ _ (omega arith))
-    (low-then _ _ (low-first _ _ (omega arith))
-    (low-then _ _ (low-first _ _ (omega arith))
-    (low-then _ _ (low-first _ _ (omega arith))
-    (low-then _ _ (low-first _ _ (omega arith)) (low-then _ _ (low-first _ _ (omega arith)) (low-then _ _ (low-first _ _ (omega arith)) (low-if _ _ (omega arith))))))))
-
 -- a verdict that refuses by 9 where nothing else is refused: the answer, which comes with no written buffer
 abbrev nine : Verdict → Answer
 nine v = given (v then refused 9 0) refusal (refusal 9 0)
 
-nine-quiet : (v : Verdict) → Low v → writesRows (nine v) ≡ false
+nine-quiet : (v : Verdict) → Numbers (NotFrom 10 15) v → writesRows (nine v) ≡ false
 unfolding given _then_
-nine-quiet fine l = refl
-nine-quiet (refused number place) l = rw (ne-eqb number 10 (omega arith), lt-leb 13 number (omega arith))
+nine-quiet fine quiet = refl
+nine-quiet (refused number place) quiet = go (decLt number 10) (decLt 15 number)
+  where
+    go : Dec (number < 10) → Dec (15 < number) → (eqb number 10 || (leb 13 number && leb number 15)) ≡ false
+    go (yes l) d = rw (ne-eqb number 10 (omega arith), lt-leb 13 number (omega arith))
+    go (no l) (yes m) = rw (ne-eqb number 10 (omega arith), le-leb 13 number (omega arith), lt-leb number 15 m)
+    go (no l) (no m) = absurd (quiet number place refl (omega arith) (omega arith))
 
 given-nine : {A : Type 0} (f : Answer → A) (v : Verdict) (a : A) → given (v then refused 9 0) (λ number place. f (refusal number place)) a ≡ f (nine v)
 unfolding given _then_
@@ -206,7 +187,7 @@ module _ (label numbers rows words : List ℕ) (d : Desk) (o : InOrder d) where
       let large = check-out (contractOf before) limit (untouched (3 * limit)) (untouched (5 * limit)) t in
       let a : Answer = nine (admission (contractOf before)) in (
         rw (t, small, large)
-            (quiet-state a [] 0 (left.Sevens (3 * limit) (5 * limit)) rows words (untouched (3 * limit)) (nine-quiet (admission (contractOf before)) (admission-low (contractOf before)))),
+            (quiet-state a [] 0 (left.Sevens (3 * limit) (5 * limit)) rows words (untouched (3 * limit)) (nine-quiet (admission (contractOf before)) (admission-numbers (contractOf before)))),
         rw (t, small, large),
       )
   check-steps limit values false t e =
@@ -228,7 +209,7 @@ module _ (label numbers rows words : List ℕ) (d : Desk) (o : InOrder d) where
       let large = run-out (contractOf before) values (untouched (3 * room)) (room-wrong room t) in
       let a : Answer = nine (admission (contractOf before)) in (
         rw (t, small, large)
-            (quiet-state a (untouched 1) 1 (left.SevenRows (3 * room)) (untouched 1 ++ drop 1 rows) words (untouched (3 * room)) (nine-quiet (admission (contractOf before)) (admission-low (contractOf before)))),
+            (quiet-state a (untouched 1) 1 (left.SevenRows (3 * room)) (untouched 1 ++ drop 1 rows) words (untouched (3 * room)) (nine-quiet (admission (contractOf before)) (admission-numbers (contractOf before)))),
         rw (t, small, large),
       )
   run-steps room values false t e =

@@ -28,7 +28,7 @@ use Rattle.model.proofs.Laws.Documents.{Document, document-fine, some-number}
 use Rattle.model.proofs.Laws.Established.{Between, Established}
 use Rattle.model.proofs.Laws.Answers.{refuse-if-fine, then-fine, given-stopped}
 use Rattle.model.proofs.Laws.Admitted.{established, admit-fine}
-use Rattle.admission.proofs.Answered.{refused-as}
+use Rattle.answers.proofs.Answered.{refused-as}
 use Rattle.reading.specs.Answers.{fault-given}
 use Rattle.running.specs.declared.Verdict.{Verdict}
 use Rattle.running.specs.declared.Verdict.the-variants as verdict

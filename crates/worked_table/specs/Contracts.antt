@@ -44,6 +44,10 @@ C3 marks =
 abbrev pub Sized : List ℕ → Contract
 Sized counts = contract 1 1 4 counts [] (0 ∷ []) (0 ∷ []) (0 ∷ 0 ∷ 0 ∷ 0 ∷ []) [] []
 
+-- Types of C1, a procedure of no parameters, one of one and one of two, and these nodes.
+abbrev pub Noded : List ℕ → Contract
+Noded nodes = typed (0 ∷ 1 ∷ 2 ∷ []) (0 ∷ 0 ∷ []) nodes []
+
 -- Types of C1 and a procedure with no rule. "Turning down a contract because some tree has no output" would refuse it.
 abbrev pub Silent : Contract
 Silent = typed (0 ∷ []) (0 ∷ 0 ∷ []) [] []

@@ -1,4 +1,4 @@
--- X1 to X8 and X12 of document 01, its sizes and its false readings, as one table; the checker computes every answer of it.
+-- X1 to X8 and X12 of document 01, its sizes, the faults of nodes and its false readings, as one table; the checker computes every answer of it.
 use mathlib.Core.Path.{_≡_, refl}
 use mathlib.Core.List.{List, [], _∷_, map}
 use Prim.Native.Nat.{ℕ, _*_}
@@ -11,8 +11,8 @@ use Rattle.model.specs.Documents.{joined, forest, leadingFrom, leading, treeOf,
 use Rattle.model.specs.Rows.{treeBelow, treeAt}
 use Rattle.model.specs.Tables.{Contract}
 use Rattle.model.specs.Expressions.{expressionOf, expressionBelow, expression, greatestParameter, holdsCall}
-use Rattle.model.specs.Answers.{_then_, refuseIf, refuseFirst, given, Answer, admitted, judged, pass, tree, ran, written, refusal}
-use Rattle.model.specs.Admission.{sizes, lengths, inputRows, entries, counts, nodes, rules, facts, admission, admit}
+use Rattle.model.specs.Answers.{_then_, refuseIf, refuseFirst, refuseLowest, given, Answer, admitted, judged, pass, tree, ran, written, refusal}
+use Rattle.model.specs.Admission.{nodeFault, sizes, lengths, inputRows, entries, counts, nodes, rules, facts, admission, admit}
 use Rattle.model.specs.Facts.{yields, factsAt, fact, digits, code, offset, factNumber, numberedFrom, numbered}
 use Rattle.model.specs.Kinds.{reachedEmpty, reachedNext, kindWords, stateIn, bitOfFact, factsIn, emptyKind, nextKind, kindOf, ofInputType, hasWrongOutput, breaks}
 use Rattle.model.specs.Rounds.{lists, added, roundTo, round, listingFrom, listing}
@@ -22,7 +22,7 @@ use Rattle.model.specs.Running.{_after_, addRow, countCall, seekRule, evaluate,
 use Rattle.model.specs.WritingOut.{writingVerdict, writingOut}
 use Rattle.worked_table.specs.Questions
 use Rattle.worked_table.specs.Questions.{Question, Reply, ask}
-use Rattle.worked_table.specs.Contracts.{bothAccepted, C1, C2, C3, Sized, Silent, OneChoice, OneChild, LateSymbol}
+use Rattle.worked_table.specs.Contracts.{bothAccepted, C1, C2, C3, Sized, Noded, Silent, OneChoice, OneChild, LateSymbol}
 
 pub record Case : Type 0 where
   pub contract : Contract
@@ -66,6 +66,23 @@ table =
     -- 256 facts and 260
     ∷ line (Sized (0 ∷ 2 ∷ 2 ∷ 2 ∷ 1 ∷ 1 ∷ 1 ∷ 0 ∷ 0 ∷ 0 ∷ [])) Questions.admit admitted []
     ∷ line (Sized (0 ∷ 2 ∷ 2 ∷ 2 ∷ 1 ∷ 1 ∷ 1 ∷ 0 ∷ 0 ∷ 0 ∷ 0 ∷ [])) Questions.admit (refusal 8 260) []
+    -- the faults of nodes, 30 to 34
+    -- a tag, a parameter, a symbol, a procedure, a child that there is not
+    ∷ line (Noded (3 ∷ 0 ∷ 0 ∷ 0 ∷ 0 ∷ [])) Questions.admit (refusal 30 0) []
+    ∷ line (Noded (0 ∷ 3 ∷ 0 ∷ 0 ∷ 0 ∷ [])) Questions.admit (refusal 31 0) []
+    ∷ line (Noded (1 ∷ 2 ∷ 0 ∷ 0 ∷ 0 ∷ [])) Questions.admit (refusal 31 0) []
+    ∷ line (Noded (2 ∷ 3 ∷ 1 ∷ 0 ∷ 0 ∷ [])) Questions.admit (refusal 31 0) []
+    ∷ line (Noded (2 ∷ 0 ∷ 0 ∷ 0 ∷ 0 ∷ [])) Questions.admit (refusal 32 0) []
+    -- a node that refers to itself, as symbol and as second argument; an unused field filled: the child of a symbol, the second
+    -- of a call of one parameter, the first of a parameter
+    ∷ line (Noded (1 ∷ 0 ∷ 0 ∷ 0 ∷ 0 ∷ 1 ∷ 1 ∷ 0 ∷ 0 ∷ 1 ∷ [])) Questions.admit (refusal 33 1) []
+    ∷ line (Noded (1 ∷ 0 ∷ 0 ∷ 0 ∷ 0 ∷ 2 ∷ 2 ∷ 1 ∷ 0 ∷ 1 ∷ [])) Questions.admit (refusal 33 1) []
+    ∷ line (Noded (1 ∷ 0 ∷ 2 ∷ 0 ∷ 0 ∷ [])) Questions.admit (refusal 34 0) []
+    ∷ line (Noded (1 ∷ 0 ∷ 0 ∷ 0 ∷ 0 ∷ 1 ∷ 0 ∷ 0 ∷ 0 ∷ 0 ∷ 2 ∷ 1 ∷ 1 ∷ 0 ∷ 1 ∷ [])) Questions.admit (refusal 34 2) []
+    ∷ line (Noded (1 ∷ 0 ∷ 0 ∷ 0 ∷ 0 ∷ 0 ∷ 1 ∷ 0 ∷ 0 ∷ 0 ∷ 0 ∷ 1 ∷ 0 ∷ 1 ∷ 0 ∷ [])) Questions.admit (refusal 34 2) []
+    -- the lowest number of a node, and the lowest node, whatever the number
+    ∷ line (Noded (1 ∷ 0 ∷ 0 ∷ 0 ∷ 0 ∷ 1 ∷ 1 ∷ 1 ∷ 1 ∷ 0 ∷ [])) Questions.admit (refusal 33 1) []
+    ∷ line (Noded (1 ∷ 0 ∷ 0 ∷ 1 ∷ 0 ∷ 3 ∷ 0 ∷ 0 ∷ 0 ∷ 0 ∷ [])) Questions.admit (refusal 34 0) []
     -- the false readings: an unused argument skipped is X12; then a tree without an output, a choice anew at each use of a
     -- parameter, two calls on one child, and a round that adds nothing for one symbol
     ∷ line Silent (Questions.check 3) (pass 1) (closed 3 (0 ∷ 0 ∷ 0 ∷ []) (1 ∷ 0 ∷ 0 ∷ 0 ∷ 0 ∷ []))
@@ -79,7 +96,7 @@ table =
 unfoldable pub computing : Unit {0}
 unfolding _and_ _or_ same below someBelow first bit word zeroFilled sameList
     preorder joined forest leadingFrom leading treeOf documentTree wholeTree document treeBelow treeAt
-    expressionOf expressionBelow expression greatestParameter holdsCall _then_ refuseIf refuseFirst given
+    expressionOf expressionBelow expression greatestParameter holdsCall _then_ refuseIf refuseFirst refuseLowest nodeFault given
     sizes lengths inputRows entries counts nodes rules facts admission admit
     yields factsAt fact digits code offset factNumber numberedFrom numbered
     reachedEmpty reachedNext kindWords stateIn bitOfFact factsIn emptyKind nextKind kindOf ofInputType hasWrongOutput breaks

@@ -1,4 +1,4 @@
-//! Admission: refusals 1 to 8, the first that applies, at its lowest place.
+//! Admission: refusals 1 to 5, 30 to 34, 7 and 8, the first that applies in this order, at its lowest place.
 
 use super::Refusal;
 use crate::contract::Contract;
@@ -37,7 +37,10 @@ pub fn admission(contract: &Contract) -> Result<(), Refusal> {
         5,
         contract.counts.iter().enumerate().map(|(procedure, &count)| count > 2 || (procedure == 0 && count != 0)),
     )?;
-    refuse_first(6, (0..contract.node_count()).map(|node| node_wrong(contract, node)))?;
+    (0..contract.node_count()).try_for_each(|node| match node_fault(contract, node) {
+        Some(number) => Err((number, node)),
+        None => Ok(()),
+    })?;
     let uses = node_uses(contract);
     refuse_first(7, (0..contract.rule_count()).map(|rule| rule_wrong(contract, &uses, rule)))?;
     match fact_total(contract) {
@@ -72,18 +75,29 @@ fn input_row_wrong(contract: &Contract, row: usize) -> bool {
         || (symbol == 0 && (left, right) != (0, 0))
 }
 
-fn node_wrong(contract: &Contract, node: usize) -> bool {
+/// What is wrong with a node: 30 its tag, 31 its name, 32 a call's child, 33 a reference that is not below it, 34 an unused
+/// field that is filled; the lowest of these.
+fn node_fault(contract: &Contract, node: usize) -> Option<u64> {
     let [tag, name, child, first, second] = contract.node_numbers(node);
     let references = match tag {
         0 if name == 1 || name == 2 => 0,
         1 if name == 0 => 0,
         1 if name < contract.symbols => 2,
         2 if name < contract.procedures() => contract.count(name),
-        _ => return true,
+        0..=2 => return Some(31),
+        _ => return Some(30),
     };
-    let child_right = if tag == 2 { child == 1 || child == 2 } else { child == 0 };
-    let right = |field: usize, used: bool| if used { field < node } else { field == 0 };
-    !(child_right && right(first, references >= 1) && right(second, references >= 2))
+    let fields = [first, second];
+    let (used, unused) = fields.split_at(references);
+    if tag == 2 && child != 1 && child != 2 {
+        Some(32)
+    } else if used.iter().any(|&reference| reference >= node) {
+        Some(33)
+    } else if (tag != 2 && child != 0) || unused.iter().any(|&field| field != 0) {
+        Some(34)
+    } else {
+        None
+    }
 }
 
 /// The greatest parameter that a node uses, directly or below, and whether it holds a call.

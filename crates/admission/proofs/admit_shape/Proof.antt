@@ -4,7 +4,7 @@ use borrow.Author.Needs.{needs}
 use Rattle.model.proofs.Laws.Admitted.{good-sizes}
 use Rattle.model.proofs.Laws.Answers.{refuse-first-at, refuse-first-none}
 use Rattle.admission.specs.Stages.{shape}
-use Rattle.admission.proofs.Order.{answer-refused, answer-passed, answer-last, answer-fine}
+use Rattle.answers.proofs.Answered.{answer-refused, answer-passed, answer-last, answer-fine}
 use Rattle.admission.proofs.admit_shape.Statement.{statement}
 use Rattle.admission.proofs.admit_shape.Tie as tie
 

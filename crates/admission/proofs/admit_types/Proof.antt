@@ -5,7 +5,7 @@ use borrow.Author.Needs.{needs}
 use Rattle.model.specs.Admission.{inputRows, entries, counts}
 use Rattle.model.proofs.Laws.Answers.{refuse-first-at, refuse-first-none}
 use Rattle.admission.specs.Stages.{types}
-use Rattle.admission.proofs.Order.{answer-refused, answer-passed, answer-last, answer-fine}
+use Rattle.answers.proofs.Answered.{answer-refused, answer-passed, answer-last, answer-fine}
 use Rattle.admission.proofs.admit_types.Statement.{statement}
 use Rattle.admission.proofs.admit_types.Tie as tie
 

@@ -10,18 +10,13 @@ use Rattle.model.specs.Tables.{Contract}
 use Rattle.model.specs.Answers.{Verdict, fine, refused, Answer, pass, tree, refusal}
 use Rattle.model.specs.Checking.{Checked, rowNumbers, kindNumbers, standing, limitWrong, checkingVerdict, checking}
 use Rattle.model.specs.Meaning.{Lent, checkOf, OneOfThree, is-pass, is-tree, is-stop, CheckMeans}
-use Rattle.model.proofs.Laws.Answers.{then-fine-left, then-fine-right, refuse-first-fine, given-refused, NumbersTo, then-numbers, refuse-first-numbers}
-use Rattle.model.proofs.Laws.Admitted.{admission-numbers}
+use Rattle.model.specs.Refusals.{NotFrom}
+use Rattle.model.proofs.Laws.Answers.{then-fine-left, then-fine-right, refuse-first-fine, given-refused}
 use Rattle.model.proofs.Meaning.Answers.{pass-not-refusal, tree-not-refusal}
 use Rattle.model.proofs.Meaning.Checks.{check-meaning}
+use Rattle.model.proofs.Meaning.Verdicts.{checking-numbers}
 use Rattle.checking.specs.Calls.{Call, returned, LetIn, NotRefused, CallMeans}
 use Rattle.checking.proofs.Sizes.{room-clear, row-clear}
-
--- refusals that write nothing have numbers up to 9
-checking-numbers : (C : Contract) (L : ℕ) (rowBuffer wordBuffer : List ℕ) → NumbersTo 9 (checkingVerdict C L rowBuffer wordBuffer)
-unfolding checkingVerdict
-checking-numbers C L rowBuffer wordBuffer =
-    then-numbers 9 _ _ (λ number place e. let small = admission-numbers C number place e in omega arith) (refuse-first-numbers 9 9 _ 3 (omega arith))
 
 -- a check that is stopped stands on nothing: both buffers are all 0
 stopped-cleared : (C : Contract) (L : ℕ) (answer : Answer)
@@ -63,10 +58,10 @@ module _ {C : Contract} {L : ℕ} (call : Call C L) where
             };
       }
 
-  -- a call is let in, or turned away with a number of at most 9 and its buffers as they were
+  -- a call is let in, or turned away with another number than 10 and its buffers as they were
   data Treated : Type 0 where
     is-let-in : LetIn call → Treated
-    is-turned-away : (number place : ℕ) → number ≤ 9 → call .answer ≡ refusal number place → call .closingRows ≡ call .rows → call .closingWords ≡ call .words → Treated
+    is-turned-away : (number place : ℕ) → NotFrom 10 10 number → call .answer ≡ refusal number place → call .closingRows ≡ call .rows → call .closingWords ≡ call .words → Treated
 
   turned-away : (number place : ℕ) → checkingVerdict C L (call .rows) (call .words) ≡ refused number place
       → checking C L (call .rows) (call .words) ≡ record { answer = refusal number place; rows = call .rows; words = call .words }
@@ -91,21 +86,21 @@ module _ {C : Contract} {L : ℕ} (call : Call C L) where
     where
       go : Treated → LetIn call
       go (is-let-in good) = good
-      go (is-turned-away number place small q r w) = absurd (pass-not-refusal e q)
+      go (is-turned-away number place other q r w) = absurd (pass-not-refusal e q)
 
   pub tree-let-in : (j : ℕ) → call .answer ≡ tree j → LetIn call
   tree-let-in j e = go treated
     where
       go : Treated → LetIn call
       go (is-let-in good) = good
-      go (is-turned-away number place small q r w) = absurd (tree-not-refusal e q)
+      go (is-turned-away number place other q r w) = absurd (tree-not-refusal e q)
 
   not-refused-let-in : NotRefused call → LetIn call
   not-refused-let-in never = go treated
     where
       go : Treated → LetIn call
       go (is-let-in good) = good
-      go (is-turned-away number place small q r w) = let ten = never number place q in absurd (omega arith)
+      go (is-turned-away number place other q r w) = let ten = never number place q in absurd (other (omega arith) (omega arith))
 
   one-of : (good : LetIn call) → OneOfThree L (call .answer)
   one-of good = rw (call .gives .answered) (means good .oneOfThree)
@@ -131,7 +126,7 @@ module _ {C : Contract} {L : ℕ} (call : Call C L) where
     where
       go : Treated → (call .closingRows ≡ call .rows) × (call .closingWords ≡ call .words)
       go (is-let-in good) = absurd (other (let-in-refusal good number place e .0))
-      go (is-turned-away number′ place′ small q r w) = (r, w)
+      go (is-turned-away number′ place′ another q r w) = (r, w)
 
   -- an answer and what it means, of a call that is let in
   exactly : {A : Type 0} (answer : Answer) → (call .answer ≡ answer → LetIn call)

@@ -1,13 +1,15 @@
--- Refusals: a sequence gives none exactly where no part does, and a table where no entry is bad; which one is given; and how
--- far their numbers go.
-use mathlib.Core.Path.{_≡_, refl, sym, _∙_}
+-- Refusals: a sequence gives none exactly where no part does, and a table where no entry is bad; which one is given; and which
+-- numbers they have.
+use mathlib.Core.Path.{_≡_, refl, sym, subst, _∙_}
 use mathlib.Core.Bool.{Bool, true, false}
 use mathlib.Core.Logic.{_⊎_, inl, inr}
-use Prim.Native.Nat.{ℕ, _<_, _≤_}
+use Prim.Native.Nat.{ℕ, zero, suc, _<_, _≤_}
+use native.Mathlib.Nat.{not-suc-le-zero}
+use native.Mathlib.Decide.{decLt}
 use native.Mathlib.Omega.{arith}
 use borrow.Author.Tests.{ltb-false, lt-ltb, le-ltb}
 use Rattle.foundation.specs.Search.{first, first-clear}
-use Rattle.model.specs.Answers.{Verdict, fine, refused, _then_, refuseIf, refuseFirst, admitted, refusal, given}
+use Rattle.model.specs.Answers.{Verdict, fine, refused, _then_, refuseIf, refuseFirst, refuseLowest, admitted, refusal, given}
 
 pub refused-not-fine : (number place : ℕ) → refused number place ≡ fine → ⊥
 refused-not-fine number place e = let z : _≡_ {A = ℕ} 0 1 = cc in omega arith
@@ -84,6 +86,54 @@ module _ (number : ℕ) (bad : ℕ → Bool) (n : ℕ) where
   unfolding refuseFirst
   refuse-first-at place e h = refuse-if-refused _ number (first bad n) (lt-ltb (first bad n) n (omega arith)) ∙ rw e
 
+-- entries with a verdict each
+module _ (verdict : ℕ → Verdict) where
+  -- none is refused
+  pub refuse-lowest-none : (n : ℕ) → ((k : ℕ) → k < n → verdict k ≡ fine) → refuseLowest verdict n ≡ fine
+  unfolding refuseLowest _then_
+  refuse-lowest-none zero none = refl
+  refuse-lowest-none (suc n) none = rw (refuse-lowest-none n (λ k l. none k (omega arith)), none n (omega arith))
+
+  -- one is, and none below it: its refusal is given
+  pub refuse-lowest-at : (n k number place : ℕ) → k < n → ((j : ℕ) → j < k → verdict j ≡ fine) → verdict k ≡ refused number place
+      → refuseLowest verdict n ≡ refused number place
+  unfolding refuseLowest _then_
+  refuse-lowest-at zero k number place h none e = absurd (not-suc-le-zero h)
+  refuse-lowest-at (suc n) k number place h none e = go (decLt k n) (λ l. refuse-lowest-at n k number place l none e)
+    where
+      go : Dec (k < n) → (k < n → refuseLowest verdict n ≡ refused number place) → refuseLowest verdict (suc n) ≡ refused number place
+      go (yes l) below = rw (below l)
+      go (no l) below = let last : k ≡ n = omega arith in rw (refuse-lowest-none n (rw last at none), rw last at e)
+
+  pub refuse-lowest-fine : (n : ℕ) → refuseLowest verdict n ≡ fine → (k : ℕ) → k < n → verdict k ≡ fine
+  unfolding refuseLowest
+  refuse-lowest-fine zero e k h = absurd (not-suc-le-zero h)
+  refuse-lowest-fine (suc n) e k h = go (decLt k n) (λ l. refuse-lowest-fine n (then-fine-left _ _ e) k l)
+    where
+      go : Dec (k < n) → (k < n → verdict k ≡ fine) → verdict k ≡ fine
+      go (yes l) below = below l
+      go (no l) below = let last : k ≡ n = omega arith in rw last (then-fine-right _ _ e)
+
+  -- what is given comes of such a one
+  pub record Lowest (n number place : ℕ) : Type 0 where
+    pub entry : ℕ
+    pub inside : entry < n
+    pub isRefused : verdict entry ≡ refused number place
+    pub noneBefore : (j : ℕ) → j < entry → verdict j ≡ fine
+
+  pub refuse-lowest-told : (n number place : ℕ) → refuseLowest verdict n ≡ refused number place → Lowest n number place
+  unfolding refuseLowest
+  refuse-lowest-told zero number place e = absurd (refused-not-fine number place (sym e))
+  refuse-lowest-told (suc n) number place e = go (refuseLowest verdict n) refl (λ f. refuse-lowest-told n number place f)
+    where
+      go : (v : Verdict) → refuseLowest verdict n ≡ v → (refuseLowest verdict n ≡ refused number place → Lowest n number place)
+          → Lowest (suc n) number place
+      go fine f below =
+          record { entry = n; inside = omega arith; isRefused = sym (then-passed _ _ f) ∙ e; noneBefore = refuse-lowest-fine n f }
+      go (refused m q) f below =
+          let l = below (f ∙ sym (then-refused _ _ m q f) ∙ e) in
+          record { entry = l .entry; inside = omega (arith, l .inside); isRefused = l .isRefused; noneBefore = l .noneBefore }
+
 module _ {A : Type 0} (onRefusal : ℕ → ℕ → A) (a : A) where
   pub given-fine : (v : Verdict) → v ≡ fine → given v onRefusal a ≡ a
   unfolding given
@@ -109,21 +159,27 @@ unfolding given
 given-admitted fine e = refl
 given-admitted (refused number place) e = absurd (refusal-admits-nothing number place e)
 
--- every refusal has a number of at most k
-abbrev pub NumbersTo : ℕ → Verdict → Type 0
-NumbersTo k v = (number place : ℕ) → v ≡ refused number place → number ≤ k
+-- every refusal has a number of which P holds
+abbrev pub Numbers : (ℕ → Type 0) → Verdict → Type 0
+Numbers P v = (number place : ℕ) → v ≡ refused number place → P number
 
-module _ (k : ℕ) where
-  pub then-numbers : (v w : Verdict) → NumbersTo k v → NumbersTo k w → NumbersTo k (v then w)
+module _ (P : ℕ → Type 0) where
+  pub then-numbers : (v w : Verdict) → Numbers P v → Numbers P w → Numbers P (v then w)
   unfolding _then_
   then-numbers fine w of-v of-w = of-w
   then-numbers (refused n p) w of-v of-w = of-v
 
-  pub refuse-if-numbers : (test : Bool) (n p : ℕ) → n ≤ k → NumbersTo k (refuseIf test n p)
+  pub refused-numbers : (n p : ℕ) → P n → Numbers P (refused n p)
+  refused-numbers n p h number place e = let same : n ≡ number = cc in subst P same h
+
+  pub refuse-if-numbers : (test : Bool) (n p : ℕ) → P n → Numbers P (refuseIf test n p)
   unfolding refuseIf
-  refuse-if-numbers true n p h number place e = let same : n ≡ number = cc in omega arith
+  refuse-if-numbers true n p h number place e = refused-numbers n p h number place e
   refuse-if-numbers false n p h number place e = absurd (refused-not-fine number place (sym e))
 
-  pub refuse-first-numbers : (n : ℕ) (bad : ℕ → Bool) (count : ℕ) → n ≤ k → NumbersTo k (refuseFirst n bad count)
+  pub refuse-first-numbers : (n : ℕ) (bad : ℕ → Bool) (count : ℕ) → P n → Numbers P (refuseFirst n bad count)
   unfolding refuseFirst
   refuse-first-numbers n bad count h = refuse-if-numbers _ n _ h
+
+  pub refuse-lowest-numbers : (verdict : ℕ → Verdict) (count : ℕ) → ((k : ℕ) → Numbers P (verdict k)) → Numbers P (refuseLowest verdict count)
+  refuse-lowest-numbers verdict count each number place e = let l = refuse-lowest-told verdict count number place e in each (l .entry) number place (l .isRefused)

@@ -2,7 +2,7 @@
 use mathlib.Core.Path.{_≡_, refl, ap, ap₂, sym, _∙_}
 use mathlib.Core.List.{List, [], _∷_}
 use mathlib.Core.Logic.{inl, inr}
-use Prim.Native.Nat.{ℕ, _≤_}
+use Prim.Native.Nat.{ℕ}
 use native.Mathlib.Omega.{arith}
 use Rattle.model.specs.Tables.{Contract}
 use Rattle.model.specs.Answers.{Verdict, fine, refused, Answer, judged, tree, pass, written, refusal, given}
@@ -12,21 +12,11 @@ use Rattle.model.specs.Checking.{Checked, standing, check, checkingVerdi
 use Rattle.model.specs.Running.{Ran, runningVerdict, running}
 use Rattle.model.specs.WritingOut.{Written, writingVerdict, writingOut}
 use Rattle.model.specs.Meaning.{RunRefusal, no-rule, no-row, too-many-calls}
-use Rattle.model.specs.Refusals.{Reason, FirstReason, RefusesFor, checkingReasons, runningReasons, Refuses, OperationRefusals}
+use Rattle.model.specs.Refusals.{Reason, FirstReason, RefusesFor, Refuses, NotFrom, OperationRefusals}
 use Rattle.model.proofs.Laws.Answers.{refusal-admits-nothing, given-fine, given-refused}
 use Rattle.model.proofs.Rounds.Stopping.{Ending, shows, passes, stops, check-ends}
 use Rattle.model.proofs.Meaning.Runs.{running-refusal}
-use Rattle.model.proofs.Meaning.Verdicts.{admission-refusals, judging-refusals, checking-refusals, running-refusals, writing-refusals}
-
--- each reason's number is at most k
-abbrev NumbersTo : ℕ → List Reason → Type 0
-NumbersTo k [] = Unit {0}
-NumbersTo k (r ∷ rs) = (r .number ≤ k) × NumbersTo k rs
-
-first-number : (k : ℕ) (rs : List Reason) (number place : ℕ) → NumbersTo k rs → FirstReason rs number place → number ≤ k
-first-number k [] number place small f = absurd f
-first-number k (r ∷ rs) number place small (inl (e, wrong)) = omega (arith, small .0)
-first-number k (r ∷ rs) number place small (inr (right, f)) = first-number k rs number place (small .1) f
+use Rattle.model.proofs.Meaning.Verdicts.{admission-refusals, judging-refusals, checking-refusals, running-refusals, writing-refusals, checking-numbers, running-numbers}
 
 -- an operation r that gives its verdict's refusal, with the buffers as they were lent, or else a, which is no refusal of these numbers
 module _ {R : Type 0} (r : R) (v : Verdict) (onRefusal : ℕ → ℕ → R) (a : R) (gives : r ≡ given v onRefusal a) (answer : R → Answer)
@@ -84,7 +74,7 @@ written-no-refusal : {n number place : ℕ} → written n ≡ refusal number pla
 written-no-refusal e = let z : _≡_ {A = ℕ} 0 1 = cc in omega arith
 
 -- a check that is let in refuses by 10 only
-check-refuses-late : (C : Contract) (L number place : ℕ) → check C L .answer ≡ refusal number place → number ≤ 9 → ⊥
+check-refuses-late : (C : Contract) (L number place : ℕ) → check C L .answer ≡ refusal number place → NotFrom 10 10 number → ⊥
 unfolding standing
 check-refuses-late C L number place e small = go (check-ends C L)
   where
@@ -94,13 +84,13 @@ check-refuses-late C L number place e small = go (check-ends C L)
     go (stops l n f) =
         let said : refusal 10 L ≡ refusal number place = sym (ap (λ (c : Checked). c .answer) f) ∙ e in
         let ten : 10 ≡ number = cc in
-        omega arith
+        small (omega arith) (omega arith)
 
 -- and a run by 13 to 15
-run-refuses-late : {procedures free number place : ℕ} → RunRefusal procedures free number place → number ≤ 12 → ⊥
-run-refuses-late (no-rule e l) small = omega arith
-run-refuses-late (no-row e l) small = omega arith
-run-refuses-late (too-many-calls e l) small = omega arith
+run-refuses-late : {procedures free number place : ℕ} → RunRefusal procedures free number place → NotFrom 13 15 number → ⊥
+run-refuses-late (no-rule e l) early = early (omega arith) (omega arith)
+run-refuses-late (no-row e l) early = early (omega arith) (omega arith)
+run-refuses-late (too-many-calls e l) early = early (omega arith) (omega arith)
 
 pub operation-refusals : OperationRefusals
 unfolding admit judging checking running writingOut
@@ -114,13 +104,13 @@ operation-refusals =
           (buffer ∷ []) (λ n p. (refl, refl)) _ (judging-refusals C numbers buffer) (λ n p e. judged-no-refusal e);
       ofChecking = λ C L rows words.
           early-refuses (checking C L rows words) (checkingVerdict C L rows words) _ _ refl (λ (c : Checked). c .answer)
-          (λ (c : Checked). c .rows ∷ c .words ∷ []) (rows ∷ words ∷ []) (λ n p. (refl, refl)) _ (checking-refusals C L rows words) (λ n. n ≤ 9)
-          (λ n p f. first-number 9 (checkingReasons C L rows words) n p (omega arith) f)
+          (λ (c : Checked). c .rows ∷ c .words ∷ []) (rows ∷ words ∷ []) (λ n p. (refl, refl)) _ (checking-refusals C L rows words) (NotFrom 10 10)
+          (λ n p f. checking-numbers C L rows words n p (checking-refusals C L rows words .refuses n p .1 f))
           (λ n p f e small. check-refuses-late C L n p (sym (ap (λ (c : Checked). c .answer) (given-fine _ _ _ f)) ∙ e) small);
       ofRunning = λ C numbers buffer.
           early-refuses (running C numbers buffer) (runningVerdict C numbers buffer) _ _ refl (λ (r : Ran). r .answer) (λ (r : Ran). r .rows ∷ [])
-          (buffer ∷ []) (λ n p. (refl, refl)) _ (running-refusals C numbers buffer) (λ n. n ≤ 12)
-          (λ n p f. first-number 12 (runningReasons C numbers buffer) n p (omega arith) f)
+          (buffer ∷ []) (λ n p. (refl, refl)) _ (running-refusals C numbers buffer) (NotFrom 13 15)
+          (λ n p f. running-numbers C numbers buffer n p (running-refusals C numbers buffer .refuses n p .1 f))
           (λ n p f e small. run-refuses-late (running-refusal C numbers buffer n p f e .reason) small);
       ofWritingOut = λ rows row buffer.
           all-refuse (writingOut rows row buffer) (writingVerdict rows row buffer) _ _ refl (λ (w : Written). w .answer)

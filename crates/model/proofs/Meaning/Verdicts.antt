@@ -12,18 +12,18 @@ use lib.Dec.{ltb, eqb}
 use lib.ListN.{length}
 use Rattle.foundation.specs.Search.{first, first-at, first-before, first-hit}
 use Rattle.model.specs.Trees.{preorder}
-use Rattle.model.specs.Tables.{Contract}
+use Rattle.model.specs.Tables.{Contract, Node, nodeAt}
 use Rattle.model.specs.Rows.{rowCount, treeAt}
-use Rattle.model.specs.Answers.{Verdict, fine, refused, refuseIf, refuseFirst, _then_}
-use Rattle.model.specs.Admission.{mostFacts, sizes, lengths, inputRows, entries, counts, nodes, rules, facts, admission}
-use Rattle.model.specs.Documents.{mostNumbers, document, documentTree}
+use Rattle.model.specs.Answers.{Verdict, fine, refused, refuseIf, refuseFirst, refuseLowest, _then_}
+use Rattle.model.specs.Admission.{tagWrong, nameWrong, childWrong, referenceWrong, unusedFilled, nodeFault, mostFacts, sizes, lengths, inputRows, entries, counts, nodes, rules, facts, admission}
+use Rattle.model.specs.Documents.{mostNumbers, Leading, ends, faulty, leading, wholeTree, document, documentTree}
 use Rattle.model.specs.Judging.{judgingVerdict}
 use Rattle.model.specs.Checking.{checkingVerdict}
 use Rattle.model.specs.Running.{rowsWrong, runningVerdict}
 use Rattle.model.specs.WritingOut.{writingVerdict}
-use Rattle.model.specs.Refusals.{Reason, FirstReason, NoReason, RefusesFor, LowestPlace, lowest, only, Fault, documentReasons, DocumentOf, DocumentVerdict, admissionReasons, judgingReasons, checkingReasons, runningReasons, writingReasons}
-use Rattle.model.proofs.Laws.Answers.{refused-not-fine, Only, refuse-if-told, refuse-if-only, refuse-if-refused, refuse-first-at}
-use Rattle.model.proofs.Laws.Admitted.{established}
+use Rattle.model.specs.Refusals.{Reason, NothingWrong, FirstReason, NoReason, RefusesFor, LowestPlace, withNumber, lowest, only, LowestEntry, nodeReasons, NotFrom, Fault, documentReasons, DocumentOf, DocumentVerdict, admissionReasons, judgingReasons, checkingReasons, runningReasons, writingReasons}
+use Rattle.model.proofs.Laws.Answers.{refused-not-fine, Only, refuse-if-told, refuse-if-only, refuse-if-refused, refuse-first-at, refuse-lowest-at, refuse-lowest-told, Numbers, then-numbers, refused-numbers, refuse-if-numbers, refuse-first-numbers}
+use Rattle.model.proofs.Laws.Admitted.{established, admission-numbers}
 use Rattle.model.proofs.Laws.Documents.{over-proper, read-back, document-fine, document-preorder}
 use Rattle.model.proofs.Meaning.Faults.{whole-only, fault-exactly}
 
@@ -90,33 +90,42 @@ then-for (refused m q) w rs ss of-v of-w =
     front number place (inl f) = of-v .refuses number place .1 f
     front number place (inr (none, f)) = absurd (stopped none)
 
--- a single verdict
-one-for : (v : Verdict) (r : Reason) → Only (r .number) v → ((place : ℕ) → (v ≡ refused (r .number) place) ↔ r .Wrong place)
-    → RefusesFor (r ∷ []) v
-one-for v r which exactly =
+-- a single reason
+single-for : (v : Verdict) (r : Reason) → ((number place : ℕ) → (v ≡ refused number place) ↔ r .Wrong number place) → RefusesFor (r ∷ []) v
+single-for v r exactly =
     record {
-      refuses = λ number place. (λ e. to number place e which, λ f. from number place f);
-      passes = (λ e. (λ place wrong. refused-not-fine (r .number) place (sym (exactly place .1 wrong) ∙ e), tt), λ none. clear none which);
+      refuses = λ number place. (λ e. inl (exactly number place .0 e), λ f. from number place f);
+      passes = (
+        λ e. (λ number place wrong. refused-not-fine number place (sym (exactly number place .1 wrong) ∙ e), tt),
+        λ none. clear (none .0) v refl,
+      );
     }
   where
-    to : (number place : ℕ) → v ≡ refused number place → Only (r .number) v → FirstReason (r ∷ []) number place
-    to number place e (inl f) = absurd (refused-not-fine number place (sym e ∙ f))
-    to number place e (inr (q, f)) =
-        let same : number ≡ r .number = (let x : refused number place ≡ refused (r .number) q = sym e ∙ f in cc) in
-        inl (same, exactly place .0 (e ∙ ap (λ (n : ℕ). refused n place) same))
-
     from : (number place : ℕ) → FirstReason (r ∷ []) number place → v ≡ refused number place
-    from number place (inl (same, wrong)) = exactly place .1 wrong ∙ ap (λ (n : ℕ). refused n place) (sym same)
+    from number place (inl wrong) = exactly number place .1 wrong
     from number place (inr (right, nothing)) = absurd nothing
 
-    clear : NoReason (r ∷ []) → Only (r .number) v → v ≡ fine
-    clear none (inl e) = e
-    clear none (inr (q, e)) = absurd (none .0 q (exactly q .0 e))
+    clear : NothingWrong r → (w : Verdict) → v ≡ w → v ≡ fine
+    clear none fine e = e
+    clear none (refused number place) e = absurd (none number place (exactly number place .0 e))
+
+-- with one number
+one-for : (v : Verdict) (number : ℕ) (Wrong : ℕ → Type 0) → Only number v → ((place : ℕ) → (v ≡ refused number place) ↔ Wrong place)
+    → RefusesFor (withNumber number Wrong ∷ []) v
+one-for v number Wrong which exactly =
+    single-for v (withNumber number Wrong)
+    (λ m place. (λ e. to m place e which, λ (same, wrong). exactly place .1 wrong ∙ ap (λ (n : ℕ). refused n place) (sym same)))
+  where
+    to : (m place : ℕ) → v ≡ refused m place → Only number v → (m ≡ number) × Wrong place
+    to m place e (inl f) = absurd (refused-not-fine m place (sym e ∙ f))
+    to m place e (inr (q, f)) =
+        let same : m ≡ number = (let x : refused m place ≡ refused number q = sym e ∙ f in cc) in
+        (same, exactly place .0 (e ∙ ap (λ (n : ℕ). refused n place) same))
 
 -- a test, with its one place
 only-for : (test : Bool) (Holds : Type 0) (number place : ℕ) → (test ≡ true) ↔ Holds → RefusesFor (only number Holds place ∷ []) (refuseIf test number place)
 only-for test Holds number place means =
-    one-for _ (only number Holds place) (refuse-if-only test number place)
+    one-for _ number _ (refuse-if-only test number place)
     (λ p. (
       λ e. let (holds, same) = refuse-if-told test number place number p e in (means .0 holds, sym same),
       λ (holds, same). refuse-if-refused test number place (means .1 holds) ∙ ap (refused number) (sym same),
@@ -126,13 +135,32 @@ only-for test Holds number place means =
 lowest-for : (number : ℕ) (bad : ℕ → Bool) (n : ℕ) → RefusesFor (lowest number bad n ∷ []) (refuseFirst number bad n)
 unfolding refuseFirst
 lowest-for number bad n =
-    one-for _ (lowest number bad n) (refuse-if-only (ltb (first bad n) n) number (first bad n))
+    one-for _ number _ (refuse-if-only (ltb (first bad n) n) number (first bad n))
     (λ place. (
       λ e.
           let (test, same) = refuse-if-told (ltb (first bad n) n) number (first bad n) number place e in
           let found : first bad n < n = ltb-true (first bad n) n test in
           subst (LowestPlace bad n) same (record { inside = found; isBad = first-hit bad n found; noneBefore = λ j l. first-before bad n j l }),
       λ p. refuse-first-at number bad n place (sym (first-at bad n place (p .inside) (p .noneBefore) (p .isBad))) (p .inside),
+    ))
+
+-- entries with reasons of their own: the first reason of the lowest
+each-for : (verdict : ℕ → Verdict) (reasons : ℕ → List Reason) (n : ℕ) → ((k : ℕ) → RefusesFor (reasons k) (verdict k))
+    → RefusesFor (record { Wrong = LowestEntry reasons n } ∷ []) (refuseLowest verdict n)
+each-for verdict reasons n for =
+    single-for _ _
+    (λ number place. (
+      λ e.
+          let l = refuse-lowest-told verdict n number place e in
+          record {
+            entry = l .entry;
+            inside = l .inside;
+            itsFirst = for (l .entry) .refuses number place .0 (l .isRefused);
+            noneBefore = λ j h. for j .passes .0 (l .noneBefore j h);
+          },
+      λ l.
+          refuse-lowest-at verdict n (l .entry) number place (l .inside) (λ j h. for j .passes .1 (l .noneBefore j h))
+          (for (l .entry) .refuses number place .1 (l .itsFirst)),
     ))
 
 -- The operations
@@ -152,7 +180,17 @@ pub document-refusals : (S : ℕ) (numbers : List ℕ) → 1 ≤ S → RefusesFo
 unfolding document
 document-refusals S numbers some =
     then-for _ _ _ _ (only-for _ (mostNumbers < length numbers) 11 (length numbers) (less mostNumbers (length numbers)))
-    (λ few. one-for _ _ (whole-only S numbers some) (fault-exactly S numbers some))
+    (λ few. one-for _ 12 _ (whole-only S numbers some) (fault-exactly S numbers some))
+
+-- "30 tag, 31 name, 32 child, 33 a reference not below the node, 34 unused field filled"
+pub node-refusals : (S : ℕ) (counts : List ℕ) (k : ℕ) (n : Node) → RefusesFor (nodeReasons S counts k n) (nodeFault S counts k n)
+unfolding nodeFault
+node-refusals S counts k n =
+    then-for _ _ _ _ (only-for _ _ 30 k (same-test (tagWrong n))) λ e₁.
+    then-for _ _ _ _ (only-for _ _ 31 k (same-test (nameWrong S counts n))) λ e₂.
+    then-for _ _ _ _ (only-for _ _ 32 k (same-test (childWrong n))) λ e₃.
+    then-for _ _ _ _ (only-for _ _ 33 k (same-test (referenceWrong counts k n))) λ e₄.
+    only-for _ _ 34 k (same-test (unusedFilled counts n))
 
 module _ (C : Contract) where
   -- "Refusals, first that applies, lowest place: 1, ..": admission's eight
@@ -164,7 +202,7 @@ module _ (C : Contract) where
       then-for (inputRows C) _ _ _ (lowest-for 3 _ _) λ e₃.
       then-for (entries C) _ _ _ (lowest-for 4 _ _) λ e₄.
       then-for (counts C) _ _ _ (lowest-for 5 _ _) λ e₅.
-      then-for (nodes C) _ _ _ (lowest-for 6 _ _) λ e₆.
+      then-for (nodes C) _ _ _ (each-for _ _ _ (λ k. node-refusals (C .transformation .symbols) (C .transformation .counts) k (nodeAt (C .transformation .nodes) k))) λ e₆.
       then-for (rules C) _ _ _ (lowest-for 7 _ _) λ e₇.
       only-for _ _ 8 _ (less mostFacts _)
 
@@ -199,6 +237,24 @@ writing-refusals rows row buffer =
     then-for _ _ _ _ (only-for _ _ 18 row (leb-true (rowCount rows) row, le-leb (rowCount rows) row)) λ e₃.
     only-for _ _ 19 (length buffer) (less (length buffer) (length (preorder (treeAt rows row))))
 
+-- The numbers of these refusals: none is one that comes of the work itself
+
+pub checking-numbers : (C : Contract) (L : ℕ) (rowBuffer wordBuffer : List ℕ) → Numbers (NotFrom 10 10) (checkingVerdict C L rowBuffer wordBuffer)
+unfolding checkingVerdict
+checking-numbers C L rowBuffer wordBuffer =
+    then-numbers _ _ _ (λ number place e l m. admission-numbers C number place e l (omega arith)) (refuse-first-numbers _ 9 _ 3 (λ l m. omega arith))
+
+pub running-numbers : (C : Contract) (numbers buffer : List ℕ) → Numbers (NotFrom 13 15) (runningVerdict C numbers buffer)
+unfolding runningVerdict document wholeTree
+running-numbers C numbers buffer =
+    then-numbers _ _ _ (λ number place e l m. admission-numbers C number place e (omega arith) m)
+    (then-numbers _ _ _ (refuse-if-numbers _ _ 9 0 (λ l m. omega arith))
+    (then-numbers _ _ _ (refuse-if-numbers _ _ 11 _ (λ l m. omega arith)) (whole (leading (C .transformation .symbols) numbers))))
+  where
+    whole : (l : Leading) → Numbers (NotFrom 13 15) (wholeTree (length numbers) l)
+    whole (ends place) = refuse-if-numbers _ _ 12 place (λ l m. omega arith)
+    whole (faulty place) = refused-numbers _ 12 place (λ l m. omega arith)
+
 -- What is read of numbers
 
 pub fine-document : (S : ℕ) (numbers : List ℕ) → document S numbers ≡ fine → DocumentOf S numbers (documentTree numbers)
@@ -210,7 +266,7 @@ document-exactly S numbers some =
       tooLong = λ place. (λ e. long place (of-document .refuses 11 place .0 e), λ h. of-document .refuses 11 place .1 (inl (refl, h)));
       faulty = λ place. (
         λ e. misread place (of-document .refuses 12 place .0 e),
-        λ (few, fault). of-document .refuses 12 place .1 (inr (λ p h. omega (arith, h .0), inl (refl, fault))),
+        λ (few, fault). of-document .refuses 12 place .1 (inr (λ number p h. omega (arith, h .1 .0), inl (refl, fault))),
       );
       whole = (
         λ e. (documentTree numbers, fine-document S numbers e),
@@ -234,6 +290,6 @@ document-exactly S numbers some =
     misread place (inr (right, inl (e, fault))) = (not-long (decLt mostNumbers (length numbers)), fault)
       where
         not-long : Dec (mostNumbers < length numbers) → length numbers ≤ mostNumbers
-        not-long (yes l) = absurd (right (length numbers) (l, refl))
+        not-long (yes l) = absurd (right 11 (length numbers) (refl, (l, refl)))
         not-long (no l) = omega arith
     misread place (inr (right, inr (free, nothing))) = absurd nothing

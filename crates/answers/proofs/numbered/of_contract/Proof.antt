@@ -18,11 +18,14 @@ enum-known-fault-4 c = search needs
 enum-known-fault-5 : tie.Need-enum-known-fault-5
 enum-known-fault-5 c = search needs
 
-cast-t11 : tie.Need-cast-t11
-cast-t11 c = search needs
+cast-t12 : tie.Need-cast-t12
+cast-t12 c = search needs
 
 enum-known-fault-6 : tie.Need-enum-known-fault-6
 enum-known-fault-6 c = search needs
+
+node-number-requires : tie.Need-node-number-requires
+node-number-requires c κs = search needs
 
 enum-known-fault-7 : tie.Need-enum-known-fault-7
 enum-known-fault-7 c = search needs
@@ -46,7 +49,7 @@ returns-5 : tie.Need-returns-5
 returns-5 c = rw (c .before .before .fault5 .given .1)
 
 returns-6 : tie.Need-returns-6
-returns-6 c = rw (c .before .fault6 .given .1)
+returns-6 c = rw (c .before .before .fault6 .given .1, c .node-number .ensures)
 
 returns-7 : tie.Need-returns-7
 returns-7 c = rw (c .before .fault7 .given .1)
@@ -63,8 +66,9 @@ of-contract-spec =
     enum-known-fault-3
     enum-known-fault-4
     enum-known-fault-5
-    cast-t11
+    cast-t12
     enum-known-fault-6
+    node-number-requires
     enum-known-fault-7
     enum-known-fault-8
     returns

@@ -1,0 +1,2 @@
+-- What an answer of admission tells.
+pub mod Answered
