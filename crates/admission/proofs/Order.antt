@@ -7,10 +7,10 @@ use native.Mathlib.Omega.{arith}
 use borrow.Author.Tests.{lt-ltb, le-ltb}
 use lib.Dec.{ltb}
 use lib.ListN.{length}
-use Rattle.model.specs.Tables.{Contract, contract, nodeAt, nodeCount}
+use Rattle.model.specs.Tables.{Contract, contract, nodeCount}
 use Rattle.model.specs.Facts.{factTotal}
-use Rattle.model.specs.Answers.{Verdict, fine, refused, _then_, refuseIf, refuseLowest}
-use Rattle.model.specs.Admission.{nodeFault, mostFacts, admittedUnless, sizes, lengths, inputRows, entries, counts, nodes, rules, facts, admission, admit}
+use Rattle.model.specs.Answers.{Verdict, fine, refused, _then_, refuseIf}
+use Rattle.model.specs.Admission.{lowestNodeFault, mostFacts, admittedUnless, sizes, lengths, inputRows, entries, counts, nodes, rules, facts, admission, admit}
 use Rattle.model.proofs.Laws.Answers.{refuse-if-refused, refuse-if-passed, then-fine-left, then-fine-right, then-assoc}
 use Rattle.model.proofs.Laws.Admitted.{sizes-good, input-marks-long, output-table-long, output-marks-long, nodes-whole, nodes-good, counts-good}
 use Rattle.model.proofs.Laws.Established.{GoodNodes}
@@ -19,7 +19,7 @@ use Rattle.admission.specs.Stages.{shape, types, expressions}
 
 -- nodes none of which is bad
 pub good-nodes : (S : ℕ) (cs ns : List ℕ) → nodeCount ns ≤ 256
-    → refuseLowest (λ k. nodeFault S cs k (nodeAt ns k)) (nodeCount ns) ≡ fine
+    → lowestNodeFault S cs ns ≡ fine
     → GoodNodes cs ns
 unfolding nodes
 good-nodes S cs ns few e = record { symbols = S; few = few; node = nodes-good (contract S 0 0 cs [] [] [] [] ns []) e }

@@ -10,9 +10,7 @@ use tables::procedure_wrong;
 use tables::reference_count;
 use tables::symbol_wrong;
 ghost use mathlib.Core.Path.{_≡_};
-ghost use Rattle.model.specs.Tables.{nodeAt, nodeCount};
-ghost use Rattle.model.specs.Admission.{nameWrong, childWrong, referenceWrong, unusedFilled, nodeFault, admittedUnless};
-ghost use Rattle.model.specs.Answers.{refuseLowest};
+ghost use Rattle.model.specs.Admission.{nameWrong, childWrong, referenceWrong, unusedFilled, nodeFault, lowestNodeFault, admittedUnless};
 ghost use Rattle.answers.specs.Numbers.{admissionAnswer};
 ghost use Rattle.tables.specs.Tuples.{nodeOf};
 
@@ -54,7 +52,7 @@ fn unused_filled(counts: &[u16], node: Node) -> bool
         | ((used < 2) & !(node.second == 0))
 }
 
-// The first fault of node k, in the order of document 01's numbers, or none.
+// The fault of node k that has the lowest number, or none.
 fn admit_node(symbols: usize, counts: &[u16], k: usize, node: Node) -> AdmissionAnswer
     ensures { λ r. ⌜ admissionAnswer r ≡ admittedUnless (nodeFault symbols (now (counts .entry)) k (nodeOf node)) ⌝ }
 {
@@ -82,14 +80,14 @@ fn admit_node(symbols: usize, counts: &[u16], k: usize, node: Node) -> Admission
 
 // The fault of the lowest bad node, or none.
 pub fn admit_nodes(symbols: usize, counts: &[u16], nodes: &[u16]) -> AdmissionAnswer
-    ensures { λ r. ⌜ admissionAnswer r ≡ admittedUnless (refuseLowest (λ k. nodeFault symbols (now (counts .entry)) k (nodeAt (now (nodes .entry)) k)) (nodeCount (now (nodes .entry)))) ⌝ }
+    ensures { λ r. ⌜ admissionAnswer r ≡ admittedUnless (lowestNodeFault symbols (now (counts .entry)) (now (nodes .entry))) ⌝ }
 {
     let n = nodes.len() / 5;
     let mut k = 0;
     while k < n {
-        let node = admit_node(symbols, counts, k, node_at(nodes, k));
-        let AdmissionAnswer::Admitted = node else {
-            return node;
+        let answer = admit_node(symbols, counts, k, node_at(nodes, k));
+        let AdmissionAnswer::Admitted = answer else {
+            return answer;
         };
         k += 1;
     }

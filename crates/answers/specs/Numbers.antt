@@ -29,7 +29,7 @@ nodeNumber node.Child = 32
 nodeNumber node.Reference = 33
 nodeNumber node.Unused = 34
 
--- refusals 1 to 8, of which 6 has become 30 to 34
+-- refusals 1 to 5, 30 to 34, 7 and 8
 abbrev pub contractRefusal : ContractFault → Answer
 contractRefusal (contract.Size place) = refusal 1 place
 contractRefusal (contract.Length place) = refusal 2 place

@@ -21,6 +21,7 @@ pub enum Answer {
     Refused(usize, usize),
 }
 
+// The number of a node's fault.
 fn node_number(fault: NodeFault) -> usize
     ensures { λ r. ⌜ r ≡ nodeNumber fault ⌝ }
 {

@@ -93,6 +93,10 @@ nodeFault S counts k n =
     then refuseIf (referenceWrong counts k n) 33 k
     then refuseIf (unusedFilled counts n) 34 k
 
+-- "Name the fault of the lowest bad node"
+unfoldable pub lowestNodeFault : (S : ℕ) (counts nodes : List ℕ) → Verdict
+lowestNodeFault S counts nodes = refuseLowest (λ k. nodeFault S counts k (nodeAt nodes k)) (nodeCount nodes)
+
 -- "The node uses, directly or below, no parameter above the procedure's count; under symbol 0 it holds no call."
 abbrev pub ruleWrong : ℕ → (counts nodes : List ℕ) → Rule → Bool
 ruleWrong S counts nodes r =
@@ -139,11 +143,9 @@ module _ (C : Contract) where
   unfoldable pub counts : Verdict
   counts = refuseFirst 5 (countWrong (C .transformation .counts)) (length (C .transformation .counts))
 
-  -- "Name the fault of the lowest bad node", "at 6's place in the order"
+  -- "6 becomes 30 .. 34, at 6's place in the order"
   unfoldable pub nodes : Verdict
-  nodes =
-      refuseLowest (λ k. nodeFault (C .transformation .symbols) (C .transformation .counts) k (nodeAt (C .transformation .nodes) k))
-      (nodeCount (C .transformation .nodes))
+  nodes = lowestNodeFault (C .transformation .symbols) (C .transformation .counts) (C .transformation .nodes)
 
   -- "7, a bad rule (rule)"
   unfoldable pub rules : Verdict
@@ -155,7 +157,7 @@ module _ (C : Contract) where
   unfoldable pub facts : Verdict
   facts = refuseIf (ltb mostFacts (factTotal (C .output .states) (C .transformation .counts))) 8 (factTotal (C .output .states) (C .transformation .counts))
 
-  -- "Refusals, first that applies, lowest place"
+  -- "Refusals, first that applies, lowest place". Where document 01 says "1 to 8" of an operation, these are meant.
   unfoldable pub admission : Verdict
   admission = sizes then lengths then inputRows then entries then counts then nodes then rules then facts
 

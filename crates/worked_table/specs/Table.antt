@@ -12,7 +12,7 @@ use Rattle.model.specs.Rows.{treeBelow, treeAt}
 use Rattle.model.specs.Tables.{Contract}
 use Rattle.model.specs.Expressions.{expressionOf, expressionBelow, expression, greatestParameter, holdsCall}
 use Rattle.model.specs.Answers.{_then_, refuseIf, refuseFirst, refuseLowest, given, Answer, admitted, judged, pass, tree, ran, written, refusal}
-use Rattle.model.specs.Admission.{nodeFault, sizes, lengths, inputRows, entries, counts, nodes, rules, facts, admission, admit}
+use Rattle.model.specs.Admission.{nodeFault, lowestNodeFault, sizes, lengths, inputRows, entries, counts, nodes, rules, facts, admission, admit}
 use Rattle.model.specs.Facts.{yields, factsAt, fact, digits, code, offset, factNumber, numberedFrom, numbered}
 use Rattle.model.specs.Kinds.{reachedEmpty, reachedNext, kindWords, stateIn, bitOfFact, factsIn, emptyKind, nextKind, kindOf, ofInputType, hasWrongOutput, breaks}
 use Rattle.model.specs.Rounds.{lists, added, roundTo, round, listingFrom, listing}
@@ -96,7 +96,7 @@ table =
 unfoldable pub computing : Unit {0}
 unfolding _and_ _or_ same below someBelow first bit word zeroFilled sameList
     preorder joined forest leadingFrom leading treeOf documentTree wholeTree document treeBelow treeAt
-    expressionOf expressionBelow expression greatestParameter holdsCall _then_ refuseIf refuseFirst refuseLowest nodeFault given
+    expressionOf expressionBelow expression greatestParameter holdsCall _then_ refuseIf refuseFirst refuseLowest nodeFault lowestNodeFault given
     sizes lengths inputRows entries counts nodes rules facts admission admit
     yields factsAt fact digits code offset factNumber numberedFrom numbered
     reachedEmpty reachedNext kindWords stateIn bitOfFact factsIn emptyKind nextKind kindOf ofInputType hasWrongOutput breaks

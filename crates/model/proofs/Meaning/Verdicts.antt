@@ -15,7 +15,7 @@ use Rattle.model.specs.Trees.{preorder}
 use Rattle.model.specs.Tables.{Contract, Node, nodeAt}
 use Rattle.model.specs.Rows.{rowCount, treeAt}
 use Rattle.model.specs.Answers.{Verdict, fine, refused, refuseIf, refuseFirst, refuseLowest, _then_}
-use Rattle.model.specs.Admission.{tagWrong, nameWrong, childWrong, referenceWrong, unusedFilled, nodeFault, mostFacts, sizes, lengths, inputRows, entries, counts, nodes, rules, facts, admission}
+use Rattle.model.specs.Admission.{tagWrong, nameWrong, childWrong, referenceWrong, unusedFilled, nodeFault, lowestNodeFault, mostFacts, sizes, lengths, inputRows, entries, counts, nodes, rules, facts, admission}
 use Rattle.model.specs.Documents.{mostNumbers, Leading, ends, faulty, leading, wholeTree, document, documentTree}
 use Rattle.model.specs.Judging.{judgingVerdict}
 use Rattle.model.specs.Checking.{checkingVerdict}
@@ -195,7 +195,7 @@ node-refusals S counts k n =
 module _ (C : Contract) where
   -- "Refusals, first that applies, lowest place: 1, ..": admission's eight
   pub admission-refusals : RefusesFor (admissionReasons C) (admission C)
-  unfolding admission sizes lengths inputRows entries counts nodes rules facts
+  unfolding admission sizes lengths inputRows entries counts nodes lowestNodeFault rules facts
   admission-refusals =
       then-for (sizes C) _ _ _ (lowest-for 1 _ 4) λ e₁.
       then-for (lengths C) _ _ _ (lowest-for 2 _ 6) λ e₂.

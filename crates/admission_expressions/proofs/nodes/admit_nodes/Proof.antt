@@ -7,7 +7,7 @@ use borrow.Author.Needs.{needs}
 use lib.ListN.{length}
 use Rattle.model.specs.Tables.{nodeAt}
 use Rattle.model.specs.Answers.{fine}
-use Rattle.model.specs.Admission.{nodeFault}
+use Rattle.model.specs.Admission.{nodeFault, lowestNodeFault}
 use Rattle.model.proofs.Laws.Answers.{refuse-lowest-none, refuse-lowest-at}
 use Rattle.answers.proofs.Answered.{answer-fine, part-passed, part-refused}
 use Rattle.admission_expressions.proofs.nodes.admit_nodes.Statement.{statement}
@@ -35,6 +35,7 @@ enum-told-2 : tie.Need-enum-told-2 Inv-loop μ-loop
 enum-told-2 c = search needs
 
 returns : tie.Need-returns Inv-loop μ-loop
+unfolding lowestNodeFault
 returns c =
     let here = c .before .before .before .before .before .loop in
     part-refused _ _ _ _ (c .enum-told2 .given .1) (rw (c .before .before .before .node-at .ensures) at (c .before .before .admit-node .ensures))
@@ -54,6 +55,7 @@ loop-again c = (
 )
 
 returns-2 : tie.Need-returns-2 Inv-loop μ-loop
+unfolding lowestNodeFault
 returns-2 c =
     let end : c .before .loop .k ≡ length (c .before .before .before .before .args .nodes .now) / 5 = omega arith in
     answer-fine _ (refuse-lowest-none _ _ (rw end at (c .before .loop .inv .1)))
