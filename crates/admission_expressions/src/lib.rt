@@ -1,4 +1,4 @@
-// The tests of admission for expression nodes and rules, and for each of the two the search for its first bad entry.
+// The tests of admission for expression nodes and rules, the fault of the lowest bad node, and the search for the first bad rule.
 pub mod nodes;
 pub mod rules;
 pub mod uses;

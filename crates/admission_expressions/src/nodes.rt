@@ -11,6 +11,7 @@ use tables::reference_count;
 use tables::symbol_wrong;
 ghost use mathlib.Core.Path.{_≡_};
 ghost use Rattle.model.specs.Admission.{nameWrong, childWrong, referenceWrong, unusedFilled, nodeFault, lowestNodeFault, admittedUnless};
+ghost use Rattle.model.specs.Answers.{refuseIf, _then_};
 ghost use Rattle.answers.specs.Numbers.{admissionAnswer};
 ghost use Rattle.tables.specs.Tuples.{nodeOf};
 
@@ -52,15 +53,19 @@ fn unused_filled(counts: &[u16], node: Node) -> bool
         | ((used < 2) & !(node.second == 0))
 }
 
-// The fault of node k that has the lowest number, or none.
-fn admit_node(symbols: usize, counts: &[u16], k: usize, node: Node) -> AdmissionAnswer
-    ensures { λ r. ⌜ admissionAnswer r ≡ admittedUnless (nodeFault symbols (now (counts .entry)) k (nodeOf node)) ⌝ }
+// The first of five faults that node k has, or none.
+fn first_fault(
+    k: usize,
+    tag: bool,
+    name: bool,
+    child: bool,
+    reference: bool,
+    unused: bool,
+) -> AdmissionAnswer
+    ensures { λ r. ⌜ admissionAnswer r ≡ admittedUnless
+        (refuseIf tag 30 k then refuseIf name 31 k then refuseIf child 32 k then refuseIf reference 33 k then refuseIf unused 34 k) ⌝ }
 {
-    let name = name_wrong(symbols, counts, node);
-    let child = child_wrong(node);
-    let reference = reference_wrong(counts, k, node);
-    let unused = unused_filled(counts, node);
-    if 2 < node.tag {
+    if tag {
         return AdmissionAnswer::Refused(ContractFault::Node(NodeFault::Tag, k));
     }
     if name {
@@ -76,6 +81,18 @@ fn admit_node(symbols: usize, counts: &[u16], k: usize, node: Node) -> Admission
         return AdmissionAnswer::Refused(ContractFault::Node(NodeFault::Unused, k));
     }
     AdmissionAnswer::Admitted
+}
+
+// The fault of node k, the one with the lowest number, or none.
+fn admit_node(symbols: usize, counts: &[u16], k: usize, node: Node) -> AdmissionAnswer
+    ensures { λ r. ⌜ admissionAnswer r ≡ admittedUnless (nodeFault symbols (now (counts .entry)) k (nodeOf node)) ⌝ }
+{
+    let tag = 2 < node.tag;
+    let name = name_wrong(symbols, counts, node);
+    let child = child_wrong(node);
+    let reference = reference_wrong(counts, k, node);
+    let unused = unused_filled(counts, node);
+    first_fault(k, tag, name, child, reference, unused)
 }
 
 // The fault of the lowest bad node, or none.

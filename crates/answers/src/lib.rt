@@ -12,7 +12,7 @@ pub enum NodeFault {
     Name,
     // A call goes to no child.
     Child,
-    // It refers to a node that is not below it.
+    // It refers to a node whose number is not smaller than its own.
     Reference,
     // A field that it does not use is not 0.
     Unused,

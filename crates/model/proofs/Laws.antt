@@ -3,6 +3,8 @@ pub mod Answers
 pub mod Expressions
 pub mod Rows
 pub mod Established
+pub mod Tests
+pub mod Nodes
 pub mod Admitted
 pub mod Facts
 pub mod Documents

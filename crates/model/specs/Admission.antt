@@ -1,7 +1,9 @@
--- Admission: the refusal's number and place as a function of whatever was handed in.
+-- Admission: the refusal's number and place as a function of whatever was handed in. What is said of a bad node (30 to 34) quotes change
+-- request W-203, which put it in the place of document 01's refusal 6.
+use mathlib.Core.Path.{_≡_}
 use mathlib.Core.Bool.{Bool, false, _&&_, _||_, not}
 use mathlib.Core.List.{List, [], _∷_}
-use Prim.Native.Nat.{ℕ, _+_, _*_, _-_, _%_}
+use Prim.Native.Nat.{ℕ, _+_, _*_, _-_, _%_, _<_, _≤_}
 use lib.Dec.{eqb, ltb, leb}
 use lib.ListN.{length, getD}
 use Rattle.foundation.specs.Tests.{choose}
@@ -84,7 +86,7 @@ unusedFilled counts n =
     (not (eqb (n .tag) 2) && not (eqb (n .child) 0)) || (ltb (references counts n) 1 && not (eqb (n .first) 0))
     || (ltb (references counts n) 2 && not (eqb (n .second) 0))
 
--- what is wrong with node k, "in the order of the numbers"; a node without a fault is good
+-- what is wrong with node k, "in the order of the numbers"
 unfoldable pub nodeFault : ℕ → List ℕ → ℕ → Node → Verdict
 nodeFault S counts k n =
     refuseIf (tagWrong n) 30 k
@@ -96,6 +98,22 @@ nodeFault S counts k n =
 -- "Name the fault of the lowest bad node"
 unfoldable pub lowestNodeFault : (S : ℕ) (counts nodes : List ℕ) → Verdict
 lowestNodeFault S counts nodes = refuseLowest (λ k. nodeFault S counts k (nodeAt nodes k)) (nodeCount nodes)
+
+-- "its arguments, as many as the procedure's parameters, are smaller node numbers, unused fields 0": the field of argument i
+abbrev pub ArgumentField : (parameters i k field : ℕ) → Type 0
+ArgumentField parameters i k field = (i ≤ parameters → field < k) × (parameters < i → field ≡ 0)
+
+-- node k without a fault: "Tag 0 is parameter name, 1 or 2, the rest 0. Tag 1 is output symbol name, child 0; for symbol 0 first and
+-- second are 0, otherwise both are smaller node numbers. Tag 2 calls procedure name on child 1 (left) or 2 (right); its arguments .."
+-- (proofs/Laws/Nodes.antt: nodeFault is fine exactly then)
+pub data FaultlessNode (S : ℕ) (counts : List ℕ) (k : ℕ) (n : Node) : Type 0 where
+  a-parameter : n .tag ≡ 0 → 1 ≤ n .name → n .name ≤ 2 → n .child ≡ 0 → n .first ≡ 0 → n .second ≡ 0 → FaultlessNode S counts k n
+  symbol-0 : n .tag ≡ 1 → n .name ≡ 0 → 0 < S → n .child ≡ 0 → n .first ≡ 0 → n .second ≡ 0 → FaultlessNode S counts k n
+  a-symbol : n .tag ≡ 1 → 1 ≤ n .name → n .name < S → n .child ≡ 0 → n .first < k → n .second < k → FaultlessNode S counts k n
+  a-call : n .tag ≡ 2 → n .name < length counts → 1 ≤ n .child → n .child ≤ 2
+      → ArgumentField (countOf counts (n .name)) 1 k (n .first)
+      → ArgumentField (countOf counts (n .name)) 2 k (n .second)
+      → FaultlessNode S counts k n
 
 -- "The node uses, directly or below, no parameter above the procedure's count; under symbol 0 it holds no call."
 abbrev pub ruleWrong : ℕ → (counts nodes : List ℕ) → Rule → Bool

@@ -1,4 +1,5 @@
--- What refusals say, as statements: of the reasons that document 01 lists, the first that applies is given, with its place.
+-- What refusals say, as statements: of the reasons that document 01 lists, the first that applies is given, with its place. Bad nodes,
+-- 30 to 34, are change request W-203's; where document 01 says "1 to 8", admission's reasons are meant.
 -- proofs/Meaning/Verdicts.antt and Refusals.antt prove them.
 use mathlib.Core.Path.{_≡_}
 use mathlib.Core.Bool.{Bool, true, false}
@@ -18,19 +19,19 @@ use Rattle.model.specs.Checking.{limitWrong, checking}
 use Rattle.model.specs.Running.{rowsWrong, running}
 use Rattle.model.specs.WritingOut.{rowWrong, writingOut}
 
--- a reason to refuse: what is wrong where the refusal has that number and that place
-pub record Reason : Type 1 where
-  pub Wrong : (number place : ℕ) → Type 0
+-- a reason to refuse with a number and a place: what is wrong then
+abbrev pub Reason : Type 1
+Reason = (number place : ℕ) → Type 0
 
 -- nothing is wrong
 abbrev pub NothingWrong : Reason → Type 0
-NothingWrong reason = (number place : ℕ) → reason .Wrong number place → ⊥
+NothingWrong reason = (number place : ℕ) → reason number place → ⊥
 
 -- "Refusals, first that applies": of these reasons, in their order
 abbrev pub FirstReason : List Reason → (number place : ℕ) → Type 0
 FirstReason [] number place = ⊥
 FirstReason (reason ∷ reasons) number place =
-    reason .Wrong number place ⊎ (NothingWrong reason × FirstReason reasons number place)
+    reason number place ⊎ (NothingWrong reason × FirstReason reasons number place)
 
 abbrev pub NoReason : List Reason → Type 0
 NoReason [] = Unit {0}
@@ -49,7 +50,7 @@ pub record LowestPlace (bad : ℕ → Bool) (n place : ℕ) : Type 0 where
 
 -- a reason with one number
 abbrev pub withNumber : ℕ → ((place : ℕ) → Type 0) → Reason
-withNumber number Wrong = record { Wrong = λ m place. (m ≡ number) × Wrong place }
+withNumber number Wrong = λ m place. (m ≡ number) × Wrong place
 
 abbrev pub lowest : ℕ → (ℕ → Bool) → ℕ → Reason
 lowest number bad n = withNumber number (LowestPlace bad n)
@@ -136,10 +137,8 @@ module _ (C : Contract) where
       -- "5, a parameter count above 2, or procedure 0 with parameters (procedure)"
       ∷ lowest 5 (countWrong (C .transformation .counts)) (length (C .transformation .counts))
       -- "Name the fault of the lowest bad node, in the order of the numbers below", "at 6's place in the order"
-      ∷ record {
-        Wrong = LowestEntry (λ k. nodeReasons (C .transformation .symbols) (C .transformation .counts) k (nodeAt (C .transformation .nodes) k))
-            (nodeCount (C .transformation .nodes));
-      }
+      ∷ LowestEntry (λ k. nodeReasons (C .transformation .symbols) (C .transformation .counts) k (nodeAt (C .transformation .nodes) k))
+      (nodeCount (C .transformation .nodes))
       -- "7, a bad rule (rule)"
       ∷ lowest 7
       (λ r. ruleWrong (C .transformation .symbols) (C .transformation .counts) (C .transformation .nodes) (ruleAt (C .transformation .rules) r))
@@ -177,9 +176,15 @@ pub record Refuses (reasons : List Reason) (Answers : (number place : ℕ) → T
   pub exactly : (number place : ℕ) → Answers number place ↔ FirstReason reasons number place
   pub nothingWritten : (number place : ℕ) → Answers number place → closing ≡ lent
 
--- a number that is none from least to most
-abbrev pub NotFrom : (least most : ℕ) → ℕ → Type 0
-NotFrom least most number = least ≤ number → number ≤ most → ⊥
+-- "6 no longer occurs": the numbers by which admission refuses
+pub data AdmissionNumber (number : ℕ) : Type 0 where
+  to-5 : 1 ≤ number → number ≤ 5 → AdmissionNumber number
+  of-node : 30 ≤ number → number ≤ 34 → AdmissionNumber number
+  of-rules : 7 ≤ number → number ≤ 8 → AdmissionNumber number
+
+-- "13, no rule (procedure); 14, a row is due and none is free ..; 15, a call past 65,536"
+abbrev pub NotOfRun : ℕ → Type 0
+NotOfRun number = 13 ≤ number → number ≤ 15 → ⊥
 
 -- "a refusal carries a number and a place and leaves the lent buffers as document 01 states": the refusals of the five operations,
 -- but for checking's 10 and running's 13 to 15, which come of the work itself
@@ -190,11 +195,11 @@ pub record OperationRefusals : Type 0 where
       (judging C numbers buffer .words ∷ [])
   pub ofChecking : (C : Contract) (L : ℕ) (rowBuffer wordBuffer : List ℕ)
       → Refuses (checkingReasons C L rowBuffer wordBuffer)
-      (λ number place. (checking C L rowBuffer wordBuffer .answer ≡ refusal number place) × NotFrom 10 10 number)
+      (λ number place. (checking C L rowBuffer wordBuffer .answer ≡ refusal number place) × (number ≡ 10 → ⊥))
       (rowBuffer ∷ wordBuffer ∷ [])
       (checking C L rowBuffer wordBuffer .rows ∷ checking C L rowBuffer wordBuffer .words ∷ [])
   pub ofRunning : (C : Contract) (numbers buffer : List ℕ)
-      → Refuses (runningReasons C numbers buffer) (λ number place. (running C numbers buffer .answer ≡ refusal number place) × NotFrom 13 15 number)
+      → Refuses (runningReasons C numbers buffer) (λ number place. (running C numbers buffer .answer ≡ refusal number place) × NotOfRun number)
       (buffer ∷ [])
       (running C numbers buffer .rows ∷ [])
   pub ofWritingOut : (rows : List ℕ) (row : ℕ) (buffer : List ℕ)

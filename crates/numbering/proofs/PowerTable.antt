@@ -5,7 +5,7 @@ use Prim.Native.Nat.{ℕ, suc, _/_, _%_, _^_, _<_}
 use native.Mathlib.Omega.{arith}
 use lib.ListN.{getD}
 use Rattle.foundation.specs.Search.{first-clear}
-use Rattle.model.proofs.Laws.Admitted.{not-eqb}
+use Rattle.model.proofs.Laws.Tests.{not-eqb}
 use Rattle.numbering.specs.Powers.{powerCount, powerAt, wrongPower, AllPowers}
 
 -- each of the twelve entries is the power that belongs there

@@ -5,7 +5,6 @@ use mathlib.Core.Bool.{Bool, true, false, not, _&&_, _||_, true≢false}
 use mathlib.Core.List.{List, [], _++_}
 use Prim.Native.Nat.{ℕ, _*_, _-_, _%_, _≤_, _<_}
 use native.Mathlib.Omega.{arith}
-use native.Mathlib.Decide.{decLt}
 use lib.Dec.{eqb, ltb, leb}
 use lib.ListN.{length, take, drop, length-replicate}
 use lib.Seq.{take-at, length-take-le}
@@ -15,7 +14,7 @@ use Rattle.foundation.specs.Search.{first}
 use Rattle.model.specs.Tables.{Contract}
 use Rattle.model.specs.Answers.{Verdict, fine, refused, _then_, refuseIf, refuseFirst, Answer, refusal, given}
 use Rattle.model.specs.Admission.{admission}
-use Rattle.model.specs.Refusals.{NotFrom}
+use Rattle.model.specs.Refusals.{AdmissionNumber, to-5, of-node, of-rules}
 use Rattle.model.proofs.Laws.Answers.{Numbers}
 use Rattle.model.proofs.Laws.Admitted.{admission-numbers}
 use Rattle.model.specs.Documents.{document}
@@ -38,15 +37,15 @@ use Rattle.playing.proofs.StateLaws.{agree-overwritten, tables-agree}
 abbrev nine : Verdict → Answer
 nine v = given (v then refused 9 0) refusal (refusal 9 0)
 
-nine-quiet : (v : Verdict) → Numbers (NotFrom 10 15) v → writesRows (nine v) ≡ false
+nine-quiet : (v : Verdict) → Numbers AdmissionNumber v → writesRows (nine v) ≡ false
 unfolding given _then_
-nine-quiet fine quiet = refl
-nine-quiet (refused number place) quiet = go (decLt number 10) (decLt 15 number)
+nine-quiet fine of-admission = refl
+nine-quiet (refused number place) of-admission = go (of-admission number place refl)
   where
-    go : Dec (number < 10) → Dec (15 < number) → (eqb number 10 || (leb 13 number && leb number 15)) ≡ false
-    go (yes l) d = rw (ne-eqb number 10 (omega arith), lt-leb 13 number (omega arith))
-    go (no l) (yes m) = rw (ne-eqb number 10 (omega arith), le-leb 13 number (omega arith), lt-leb number 15 m)
-    go (no l) (no m) = absurd (quiet number place refl (omega arith) (omega arith))
+    go : AdmissionNumber number → (eqb number 10 || (leb 13 number && leb number 15)) ≡ false
+    go (to-5 l m) = rw (ne-eqb number 10 (omega arith), lt-leb 13 number (omega arith))
+    go (of-node l m) = rw (ne-eqb number 10 (omega arith), le-leb 13 number (omega arith), lt-leb number 15 (omega arith))
+    go (of-rules l m) = rw (ne-eqb number 10 (omega arith), lt-leb 13 number (omega arith))
 
 given-nine : {A : Type 0} (f : Answer → A) (v : Verdict) (a : A) → given (v then refused 9 0) (λ number place. f (refusal number place)) a ≡ f (nine v)
 unfolding given _then_

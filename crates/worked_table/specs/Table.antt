@@ -73,15 +73,18 @@ table =
     ∷ line (Noded (1 ∷ 2 ∷ 0 ∷ 0 ∷ 0 ∷ [])) Questions.admit (refusal 31 0) []
     ∷ line (Noded (2 ∷ 3 ∷ 1 ∷ 0 ∷ 0 ∷ [])) Questions.admit (refusal 31 0) []
     ∷ line (Noded (2 ∷ 0 ∷ 0 ∷ 0 ∷ 0 ∷ [])) Questions.admit (refusal 32 0) []
-    -- a node that refers to itself, as symbol and as second argument; an unused field filled: the child of a symbol, the second
-    -- of a call of one parameter, the first of a parameter
+    -- a node that refers to itself: an output symbol, and a call by its second argument
     ∷ line (Noded (1 ∷ 0 ∷ 0 ∷ 0 ∷ 0 ∷ 1 ∷ 1 ∷ 0 ∷ 0 ∷ 1 ∷ [])) Questions.admit (refusal 33 1) []
     ∷ line (Noded (1 ∷ 0 ∷ 0 ∷ 0 ∷ 0 ∷ 2 ∷ 2 ∷ 1 ∷ 0 ∷ 1 ∷ [])) Questions.admit (refusal 33 1) []
+    -- an unused field filled: the child of an output symbol and of a parameter, the first of a parameter, the second of a call of
+    -- one parameter
     ∷ line (Noded (1 ∷ 0 ∷ 2 ∷ 0 ∷ 0 ∷ [])) Questions.admit (refusal 34 0) []
-    ∷ line (Noded (1 ∷ 0 ∷ 0 ∷ 0 ∷ 0 ∷ 1 ∷ 0 ∷ 0 ∷ 0 ∷ 0 ∷ 2 ∷ 1 ∷ 1 ∷ 0 ∷ 1 ∷ [])) Questions.admit (refusal 34 2) []
+    ∷ line (Noded (0 ∷ 1 ∷ 1 ∷ 0 ∷ 0 ∷ [])) Questions.admit (refusal 34 0) []
     ∷ line (Noded (1 ∷ 0 ∷ 0 ∷ 0 ∷ 0 ∷ 0 ∷ 1 ∷ 0 ∷ 0 ∷ 0 ∷ 0 ∷ 1 ∷ 0 ∷ 1 ∷ 0 ∷ [])) Questions.admit (refusal 34 2) []
-    -- the lowest number of a node, and the lowest node, whatever the number
+    ∷ line (Noded (1 ∷ 0 ∷ 0 ∷ 0 ∷ 0 ∷ 1 ∷ 0 ∷ 0 ∷ 0 ∷ 0 ∷ 2 ∷ 1 ∷ 1 ∷ 0 ∷ 1 ∷ [])) Questions.admit (refusal 34 2) []
+    -- the lowest number of a node: 33 before 34, of an output symbol and of a call; and the lowest node, whatever the number
     ∷ line (Noded (1 ∷ 0 ∷ 0 ∷ 0 ∷ 0 ∷ 1 ∷ 1 ∷ 1 ∷ 1 ∷ 0 ∷ [])) Questions.admit (refusal 33 1) []
+    ∷ line (Noded (1 ∷ 0 ∷ 0 ∷ 0 ∷ 0 ∷ 2 ∷ 1 ∷ 1 ∷ 1 ∷ 1 ∷ [])) Questions.admit (refusal 33 1) []
     ∷ line (Noded (1 ∷ 0 ∷ 0 ∷ 1 ∷ 0 ∷ 3 ∷ 0 ∷ 0 ∷ 0 ∷ 0 ∷ [])) Questions.admit (refusal 34 0) []
     -- the false readings: an unused argument skipped is X12; then a tree without an output, a choice anew at each use of a
     -- parameter, two calls on one child, and a round that adds nothing for one symbol

@@ -1,4 +1,4 @@
-//! Admission: refusals 1 to 5, 30 to 34, 7 and 8, the first that applies in this order, at its lowest place.
+//! Admission: refusals 1 to 5, then 30 to 34 for the lowest bad node, then 7 and 8: the first that applies, at its lowest place.
 
 use super::Refusal;
 use crate::contract::Contract;

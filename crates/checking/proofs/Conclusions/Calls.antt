@@ -10,7 +10,6 @@ use Rattle.model.specs.Tables.{Contract}
 use Rattle.model.specs.Answers.{Verdict, fine, refused, Answer, pass, tree, refusal}
 use Rattle.model.specs.Checking.{Checked, rowNumbers, kindNumbers, standing, limitWrong, checkingVerdict, checking}
 use Rattle.model.specs.Meaning.{Lent, checkOf, OneOfThree, is-pass, is-tree, is-stop, CheckMeans}
-use Rattle.model.specs.Refusals.{NotFrom}
 use Rattle.model.proofs.Laws.Answers.{then-fine-left, then-fine-right, refuse-first-fine, given-refused}
 use Rattle.model.proofs.Meaning.Answers.{pass-not-refusal, tree-not-refusal}
 use Rattle.model.proofs.Meaning.Checks.{check-meaning}
@@ -61,7 +60,7 @@ module _ {C : Contract} {L : ℕ} (call : Call C L) where
   -- a call is let in, or turned away with another number than 10 and its buffers as they were
   data Treated : Type 0 where
     is-let-in : LetIn call → Treated
-    is-turned-away : (number place : ℕ) → NotFrom 10 10 number → call .answer ≡ refusal number place → call .closingRows ≡ call .rows → call .closingWords ≡ call .words → Treated
+    is-turned-away : (number place : ℕ) → (number ≡ 10 → ⊥) → call .answer ≡ refusal number place → call .closingRows ≡ call .rows → call .closingWords ≡ call .words → Treated
 
   turned-away : (number place : ℕ) → checkingVerdict C L (call .rows) (call .words) ≡ refused number place
       → checking C L (call .rows) (call .words) ≡ record { answer = refusal number place; rows = call .rows; words = call .words }
@@ -100,7 +99,7 @@ module _ {C : Contract} {L : ℕ} (call : Call C L) where
     where
       go : Treated → LetIn call
       go (is-let-in good) = good
-      go (is-turned-away number place other q r w) = let ten = never number place q in absurd (other (omega arith) (omega arith))
+      go (is-turned-away number place other q r w) = absurd (other (never number place q))
 
   one-of : (good : LetIn call) → OneOfThree L (call .answer)
   one-of good = rw (call .gives .answered) (means good .oneOfThree)

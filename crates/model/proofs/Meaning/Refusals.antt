@@ -11,7 +11,7 @@ use Rattle.model.specs.Checking.{Checked, standing, check, checkingVerdi
 use Rattle.model.specs.Running.{Ran, runningVerdict, running}
 use Rattle.model.specs.WritingOut.{Written, writingVerdict, writingOut}
 use Rattle.model.specs.Meaning.{RunRefusal, no-rule, no-row, too-many-calls}
-use Rattle.model.specs.Refusals.{Reason, FirstReason, RefusesFor, Refuses, NotFrom, OperationRefusals}
+use Rattle.model.specs.Refusals.{Reason, FirstReason, RefusesFor, Refuses, NotOfRun, OperationRefusals}
 use Rattle.model.proofs.Laws.Answers.{refusal-admits-nothing, given-fine, given-refused}
 use Rattle.model.proofs.Rounds.Stopping.{Ending, shows, passes, stops, check-ends}
 use Rattle.model.proofs.Meaning.Runs.{running-refusal}
@@ -43,11 +43,11 @@ module _ {R : Type 0} (r : R) (v : Verdict) (onRefusal : ℕ → ℕ → R) (a :
     early-refuses Early early never =
         record {
           exactly = λ number place. (
-            λ (e, small). for .refuses number place .0 (told number place (λ f g. never number place f g small) e),
+            λ (e, meant). for .refuses number place .0 (told number place (λ f g. never number place f g meant) e),
             λ f. (ap answer (refused-gives number place (for .refuses number place .1 f)) ∙ refusing number place .0, early number place f),
           );
-          nothingWritten = λ number place (e, small).
-              ap buffers (refused-gives number place (told number place (λ f g. never number place f g small) e)) ∙ refusing number place .1;
+          nothingWritten = λ number place (e, meant).
+              ap buffers (refused-gives number place (told number place (λ f g. never number place f g meant) e)) ∙ refusing number place .1;
         }
 
     all-refuse : ((number place : ℕ) → answer a ≡ refusal number place → ⊥)
@@ -73,9 +73,9 @@ written-no-refusal : {n number place : ℕ} → written n ≡ refusal number pla
 written-no-refusal e = let z : _≡_ {A = ℕ} 0 1 = cc in omega arith
 
 -- a check that is let in refuses by 10 only
-check-refuses-late : (C : Contract) (L number place : ℕ) → check C L .answer ≡ refusal number place → NotFrom 10 10 number → ⊥
+check-refuses-late : (C : Contract) (L number place : ℕ) → check C L .answer ≡ refusal number place → (number ≡ 10 → ⊥) → ⊥
 unfolding standing
-check-refuses-late C L number place e small = go (check-ends C L)
+check-refuses-late C L number place e other = go (check-ends C L)
   where
     go : Ending C L (check C L) → ⊥
     go (shows j l i b n f) = tree-no-refusal (sym (ap (λ (c : Checked). c .answer) f) ∙ e)
@@ -83,10 +83,10 @@ check-refuses-late C L number place e small = go (check-ends C L)
     go (stops l n f) =
         let said : refusal 10 L ≡ refusal number place = sym (ap (λ (c : Checked). c .answer) f) ∙ e in
         let ten : 10 ≡ number = cc in
-        small (omega arith) (omega arith)
+        other (sym ten)
 
 -- and a run by 13 to 15
-run-refuses-late : {procedures free number place : ℕ} → RunRefusal procedures free number place → NotFrom 13 15 number → ⊥
+run-refuses-late : {procedures free number place : ℕ} → RunRefusal procedures free number place → NotOfRun number → ⊥
 run-refuses-late (no-rule e l) early = early (omega arith) (omega arith)
 run-refuses-late (no-row e l) early = early (omega arith) (omega arith)
 run-refuses-late (too-many-calls e l) early = early (omega arith) (omega arith)
@@ -103,14 +103,14 @@ operation-refusals =
           (buffer ∷ []) (λ n p. (refl, refl)) _ (judging-refusals C numbers buffer) (λ n p e. judged-no-refusal e);
       ofChecking = λ C L rows words.
           early-refuses (checking C L rows words) (checkingVerdict C L rows words) _ _ refl (λ (c : Checked). c .answer)
-          (λ (c : Checked). c .rows ∷ c .words ∷ []) (rows ∷ words ∷ []) (λ n p. (refl, refl)) _ (checking-refusals C L rows words) (NotFrom 10 10)
+          (λ (c : Checked). c .rows ∷ c .words ∷ []) (rows ∷ words ∷ []) (λ n p. (refl, refl)) _ (checking-refusals C L rows words) (λ n. n ≡ 10 → ⊥)
           (λ n p f. checking-numbers C L rows words n p (checking-refusals C L rows words .refuses n p .1 f))
-          (λ n p f e small. check-refuses-late C L n p (sym (ap (λ (c : Checked). c .answer) (given-fine _ _ _ f)) ∙ e) small);
+          (λ n p f e meant. check-refuses-late C L n p (sym (ap (λ (c : Checked). c .answer) (given-fine _ _ _ f)) ∙ e) meant);
       ofRunning = λ C numbers buffer.
           early-refuses (running C numbers buffer) (runningVerdict C numbers buffer) _ _ refl (λ (r : Ran). r .answer) (λ (r : Ran). r .rows ∷ [])
-          (buffer ∷ []) (λ n p. (refl, refl)) _ (running-refusals C numbers buffer) (NotFrom 13 15)
+          (buffer ∷ []) (λ n p. (refl, refl)) _ (running-refusals C numbers buffer) NotOfRun
           (λ n p f. running-numbers C numbers buffer n p (running-refusals C numbers buffer .refuses n p .1 f))
-          (λ n p f e small. run-refuses-late (running-refusal C numbers buffer n p f e .reason) small);
+          (λ n p f e meant. run-refuses-late (running-refusal C numbers buffer n p f e .reason) meant);
       ofWritingOut = λ rows row buffer.
           all-refuse (writingOut rows row buffer) (writingVerdict rows row buffer) _ _ refl (λ (w : Written). w .answer)
           (λ (w : Written). w .numbers ∷ []) (buffer ∷ []) (λ n p. (refl, refl)) _ (writing-refusals rows row buffer)

@@ -21,9 +21,9 @@ use Rattle.model.specs.Judging.{judgingVerdict}
 use Rattle.model.specs.Checking.{checkingVerdict}
 use Rattle.model.specs.Running.{rowsWrong, runningVerdict}
 use Rattle.model.specs.WritingOut.{writingVerdict}
-use Rattle.model.specs.Refusals.{Reason, NothingWrong, FirstReason, NoReason, RefusesFor, LowestPlace, withNumber, lowest, only, LowestEntry, nodeReasons, NotFrom, Fault, documentReasons, DocumentOf, DocumentVerdict, admissionReasons, judgingReasons, checkingReasons, runningReasons, writingReasons}
+use Rattle.model.specs.Refusals.{Reason, NothingWrong, FirstReason, NoReason, RefusesFor, LowestPlace, withNumber, lowest, only, LowestEntry, nodeReasons, NotOfRun, Fault, documentReasons, DocumentOf, DocumentVerdict, admissionReasons, judgingReasons, checkingReasons, runningReasons, writingReasons}
 use Rattle.model.proofs.Laws.Answers.{refused-not-fine, Only, refuse-if-told, refuse-if-only, refuse-if-refused, refuse-first-at, refuse-lowest-at, refuse-lowest-told, Numbers, then-numbers, refused-numbers, refuse-if-numbers, refuse-first-numbers}
-use Rattle.model.proofs.Laws.Admitted.{established, admission-numbers}
+use Rattle.model.proofs.Laws.Admitted.{established, admission-numbers, not-late}
 use Rattle.model.proofs.Laws.Documents.{over-proper, read-back, document-fine, document-preorder}
 use Rattle.model.proofs.Meaning.Faults.{whole-only, fault-exactly}
 
@@ -91,7 +91,7 @@ then-for (refused m q) w rs ss of-v of-w =
     front number place (inr (none, f)) = absurd (stopped none)
 
 -- a single reason
-single-for : (v : Verdict) (r : Reason) → ((number place : ℕ) → (v ≡ refused number place) ↔ r .Wrong number place) → RefusesFor (r ∷ []) v
+single-for : (v : Verdict) (r : Reason) → ((number place : ℕ) → (v ≡ refused number place) ↔ r number place) → RefusesFor (r ∷ []) v
 single-for v r exactly =
     record {
       refuses = λ number place. (λ e. inl (exactly number place .0 e), λ f. from number place f);
@@ -146,7 +146,7 @@ lowest-for number bad n =
 
 -- entries with reasons of their own: the first reason of the lowest
 each-for : (verdict : ℕ → Verdict) (reasons : ℕ → List Reason) (n : ℕ) → ((k : ℕ) → RefusesFor (reasons k) (verdict k))
-    → RefusesFor (record { Wrong = LowestEntry reasons n } ∷ []) (refuseLowest verdict n)
+    → RefusesFor (LowestEntry reasons n ∷ []) (refuseLowest verdict n)
 each-for verdict reasons n for =
     single-for _ _
     (λ number place. (
@@ -239,19 +239,21 @@ writing-refusals rows row buffer =
 
 -- The numbers of these refusals: none is one that comes of the work itself
 
-pub checking-numbers : (C : Contract) (L : ℕ) (rowBuffer wordBuffer : List ℕ) → Numbers (NotFrom 10 10) (checkingVerdict C L rowBuffer wordBuffer)
+pub checking-numbers : (C : Contract) (L : ℕ) (rowBuffer wordBuffer : List ℕ)
+    → Numbers (λ number. number ≡ 10 → ⊥) (checkingVerdict C L rowBuffer wordBuffer)
 unfolding checkingVerdict
 checking-numbers C L rowBuffer wordBuffer =
-    then-numbers _ _ _ (λ number place e l m. admission-numbers C number place e l (omega arith)) (refuse-first-numbers _ 9 _ 3 (λ l m. omega arith))
+    then-numbers _ _ _ (λ number place e ten. not-late number (admission-numbers C number place e) (omega arith) (omega arith))
+    (refuse-first-numbers _ 9 _ 3 (λ ten. omega arith))
 
-pub running-numbers : (C : Contract) (numbers buffer : List ℕ) → Numbers (NotFrom 13 15) (runningVerdict C numbers buffer)
+pub running-numbers : (C : Contract) (numbers buffer : List ℕ) → Numbers NotOfRun (runningVerdict C numbers buffer)
 unfolding runningVerdict document wholeTree
 running-numbers C numbers buffer =
-    then-numbers _ _ _ (λ number place e l m. admission-numbers C number place e (omega arith) m)
+    then-numbers _ _ _ (λ number place e l m. not-late number (admission-numbers C number place e) (omega arith) m)
     (then-numbers _ _ _ (refuse-if-numbers _ _ 9 0 (λ l m. omega arith))
     (then-numbers _ _ _ (refuse-if-numbers _ _ 11 _ (λ l m. omega arith)) (whole (leading (C .transformation .symbols) numbers))))
   where
-    whole : (l : Leading) → Numbers (NotFrom 13 15) (wholeTree (length numbers) l)
+    whole : (l : Leading) → Numbers NotOfRun (wholeTree (length numbers) l)
     whole (ends place) = refuse-if-numbers _ _ 12 place (λ l m. omega arith)
     whole (faulty place) = refused-numbers _ 12 place (λ l m. omega arith)
 
