@@ -75,16 +75,25 @@ nameWrong S counts n =
 abbrev pub childWrong : Node → Bool
 childWrong n = eqb (n .tag) 2 && outside 1 2 (n .child)
 
+-- field i of a node, its first or its second: a reference that is no smaller node number
+abbrev pub fieldWrong : (references i k field : ℕ) → Bool
+fieldWrong references i k field = leb i references && leb k field
+
+-- and one that is no reference and not 0
+abbrev pub fieldFilled : (references i field : ℕ) → Bool
+fieldFilled references i field = ltb references i && not (eqb field 0)
+
+-- "elsewhere a filled child is 34"
+abbrev pub childFilled : Node → Bool
+childFilled n = not (eqb (n .tag) 2) && not (eqb (n .child) 0)
+
 -- "33 a reference not below the node": "smaller node numbers"
 abbrev pub referenceWrong : List ℕ → ℕ → Node → Bool
-referenceWrong counts k n =
-    (leb 1 (references counts n) && leb k (n .first)) || (leb 2 (references counts n) && leb k (n .second))
+referenceWrong counts k n = fieldWrong (references counts n) 1 k (n .first) || fieldWrong (references counts n) 2 k (n .second)
 
--- "34 unused field filled": "unused fields 0", and "elsewhere a filled child is 34"
+-- "34 unused field filled": "unused fields 0"
 abbrev pub unusedFilled : List ℕ → Node → Bool
-unusedFilled counts n =
-    (not (eqb (n .tag) 2) && not (eqb (n .child) 0)) || (ltb (references counts n) 1 && not (eqb (n .first) 0))
-    || (ltb (references counts n) 2 && not (eqb (n .second) 0))
+unusedFilled counts n = childFilled n || fieldFilled (references counts n) 1 (n .first) || fieldFilled (references counts n) 2 (n .second)
 
 -- what is wrong with node k, "in the order of the numbers"
 unfoldable pub nodeFault : ℕ → List ℕ → ℕ → Node → Verdict

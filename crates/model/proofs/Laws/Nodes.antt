@@ -1,43 +1,43 @@
 -- Nodes: a node has no fault exactly if it is one of those that document 01 describes; and what all others need to know of it.
-use mathlib.Core.Path.{_≡_, refl, ap}
-use mathlib.Core.Bool.{Bool, false, _&&_, _||_, not}
+use mathlib.Core.Path.{_≡_, ap}
+use mathlib.Core.Bool.{false, _||_, not}
 use mathlib.Core.List.{List}
 use mathlib.Core.Logic.{_↔_}
-use Prim.Native.Nat.{ℕ, _<_, _≤_}
+use Prim.Native.Nat.{ℕ, _<_}
 use native.Mathlib.Omega.{arith}
 use native.Mathlib.Decide.{ℕ-discrete, decLt}
-use borrow.Author.Tests.{ltb-false, leb-false, lt-ltb, le-ltb, lt-leb, le-leb, eq-eqb, ne-eqb}
-use lib.Dec.{ltb, leb, eqb}
+use borrow.Author.Tests.{ltb-false, leb-false, lt-ltb, le-ltb, lt-leb, le-leb, ne-eqb}
+use lib.Dec.{eqb}
 use lib.ListN.{length}
 use Rattle.foundation.specs.TestLaws.{or-first, or-second}
-use Rattle.model.specs.Tables.{Node, countOf}
+use Rattle.model.specs.Tables.{Node}
 use Rattle.model.specs.Answers.{fine, refuseIf, _then_}
-use Rattle.model.specs.Admission.{references, tagWrong, nameWrong, childWrong, referenceWrong, unusedFilled, nodeFault, ArgumentField, FaultlessNode, a-parameter, symbol-0, a-symbol, a-call}
+use Rattle.model.specs.Admission.{references, tagWrong, nameWrong, childWrong, fieldWrong, fieldFilled, childFilled, referenceWrong, unusedFilled, nodeFault, ArgumentField, FaultlessNode, a-parameter, symbol-0, a-symbol, a-call}
 use Rattle.model.proofs.Laws.Answers.{then-fine-left, then-fine-right, refuse-if-fine}
 use Rattle.model.proofs.Laws.Established.{GoodNode, good-parameter, good-nothing, good-symbol, good-call}
 use Rattle.model.proofs.Laws.Tests.{and-right, NoneOf, inside, not-outside, not-eqb}
 
--- a field that is used as a reference and one that is not, by the tests
-module _ (parameters i k field : ℕ) where
-  field-told : (leb i parameters && leb k field) ≡ false → (ltb parameters i && not (eqb field 0)) ≡ false → ArgumentField parameters i k field
-  field-told used unused = (
-    λ h. leb-false k field (and-right _ _ used (le-leb i parameters h)),
-    λ h. not-eqb field 0 (and-right _ _ unused (lt-ltb parameters i h)),
+-- a field that is a reference and one that is not, by the tests
+module _ (references i k field : ℕ) where
+  field-told : fieldWrong references i k field ≡ false → fieldFilled references i field ≡ false → ArgumentField references i k field
+  field-told right empty = (
+    λ h. leb-false k field (and-right _ _ right (le-leb i references h)),
+    λ h. not-eqb field 0 (and-right _ _ empty (lt-ltb references i h)),
   )
 
-  field-used : ArgumentField parameters i k field → (leb i parameters && leb k field) ≡ false
-  field-used f = go (decLt parameters i)
+  field-right : ArgumentField references i k field → fieldWrong references i k field ≡ false
+  field-right f = go (decLt references i)
     where
-      go : Dec (parameters < i) → (leb i parameters && leb k field) ≡ false
-      go (yes l) = rw (lt-leb i parameters l)
-      go (no l) = rw (le-leb i parameters (omega arith), lt-leb k field (f .0 (omega arith)))
+      go : Dec (references < i) → fieldWrong references i k field ≡ false
+      go (yes l) = rw (lt-leb i references l)
+      go (no l) = rw (le-leb i references (omega arith), lt-leb k field (f .0 (omega arith)))
 
-  field-unused : ArgumentField parameters i k field → (ltb parameters i && not (eqb field 0)) ≡ false
-  field-unused f = go (decLt parameters i)
+  field-empty : ArgumentField references i k field → fieldFilled references i field ≡ false
+  field-empty f = go (decLt references i)
     where
-      go : Dec (parameters < i) → (ltb parameters i && not (eqb field 0)) ≡ false
-      go (yes l) = rw (lt-ltb parameters i l, f .1 l)
-      go (no l) = rw (le-ltb parameters i (omega arith))
+      go : Dec (references < i) → fieldFilled references i field ≡ false
+      go (yes l) = rw (lt-ltb references i l, f .1 l)
+      go (no l) = rw (le-ltb references i (omega arith))
 
 module _ (S : ℕ) (counts : List ℕ) (k : ℕ) (n : Node) where
   -- none of the five faults
@@ -68,24 +68,18 @@ module _ (S : ℕ) (counts : List ℕ) (k : ℕ) (n : Node) where
     first : ArgumentField (references counts n) 1 k (n .first)
     second : ArgumentField (references counts n) 2 k (n .second)
 
-  -- the three parts of an unused field filled
-  abbrev childFilled : Bool
-  childFilled = not (eqb (n .tag) 2) && not (eqb (n .child) 0)
-
-  abbrev firstFilled : Bool
-  firstFilled = ltb (references counts n) 1 && not (eqb (n .first) 0)
-
-  abbrev secondFilled : Bool
-  secondFilled = ltb (references counts n) 2 && not (eqb (n .second) 0)
-
   fields : NoFault → Fields
   fields p =
-      let front : (childFilled || firstFilled) ≡ false = or-first (childFilled || firstFilled) secondFilled (p .five) in
+      let used = references counts n in
+      let wrong₁ = fieldWrong used 1 k (n .first) in
+      let wrong₂ = fieldWrong used 2 k (n .second) in
+      let filled₁ = fieldFilled used 1 (n .first) in
+      let filled₂ = fieldFilled used 2 (n .second) in
+      let front : (childFilled n || filled₁) ≡ false = or-first (childFilled n || filled₁) filled₂ (p .five) in
       record {
-        child = λ other. not-eqb (n .child) 0 (and-right _ _ (or-first childFilled firstFilled front) (ap not (ne-eqb (n .tag) 2 other)));
-        first = field-told _ 1 k _ (or-first _ (leb 2 (references counts n) && leb k (n .second)) (p .four)) (or-second childFilled firstFilled front);
-        second = field-told _ 2 k _ (or-second (leb 1 (references counts n) && leb k (n .first)) _ (p .four))
-            (or-second (childFilled || firstFilled) secondFilled (p .five));
+        child = λ other. not-eqb (n .child) 0 (and-right _ _ (or-first (childFilled n) filled₁ front) (ap not (ne-eqb (n .tag) 2 other)));
+        first = field-told used 1 k (n .first) (or-first wrong₁ wrong₂ (p .four)) (or-second (childFilled n) filled₁ front);
+        second = field-told used 2 k (n .second) (or-second wrong₁ wrong₂ (p .four)) (or-second (childFilled n || filled₁) filled₂ (p .five));
       }
 
   -- by the tag
@@ -141,8 +135,8 @@ module _ (S : ℕ) (counts : List ℕ) (k : ℕ) (n : Node) where
         one = rw t;
         two = rw (t, lt-leb (length counts) (n .name) m);
         three = rw t (not-outside 1 2 (n .child) l c);
-        four = rw (t, field-used _ 1 k (n .first) f, field-used _ 2 k (n .second) s);
-        five = rw (t, field-unused _ 1 k (n .first) f, field-unused _ 2 k (n .second) s);
+        four = rw (t, field-right _ 1 k (n .first) f, field-right _ 2 k (n .second) s);
+        five = rw (t, field-empty _ 1 k (n .first) f, field-empty _ 2 k (n .second) s);
       }
 
   -- a node has no fault exactly if document 01 describes it
