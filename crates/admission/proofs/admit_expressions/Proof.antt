@@ -24,7 +24,8 @@ returns c = part-stopped _ _ _ _ (c .enum-told2 .given .1) (c .before .before .a
 
 first-bad-rule-requires : tie.Need-first-bad-rule-requires
 first-bad-rule-requires c κs =
-    good-nodes (c .before .before .before .before .before .before .args .symbols) _ _ (c .before .before .before .before .before .before .pre .1) (part-passed _ _ (c .enum-told .given .1) (c .before .before .admit-nodes .ensures))
+    let start = c .before .before .before .before .before .before in
+    good-nodes (start .args .symbols) _ _ (start .pre .1) (part-passed _ _ (c .enum-told .given .1) (c .before .before .admit-nodes .ensures))
 
 returns-2 : tie.Need-returns-2
 unfolding expressions nodes rules
@@ -38,14 +39,16 @@ fact-total-requires c κs = search needs
 returns-3 : tie.Need-returns-3
 unfolding expressions nodes rules facts
 returns-3 c =
-    answer-passed _ _ _ (part-passed _ _ (c .before .before .before .before .enum-told .given .1) (c .before .before .before .before .before .before .admit-nodes .ensures))
+    let passed = c .before .before .before .before in
+    answer-passed _ _ _ (part-passed _ _ (passed .enum-told .given .1) (passed .before .before .admit-nodes .ensures))
     (answer-passed _ _ _ (refuse-first-none 7 _ _ _ (c .before .before .before .first-bad-rule .ensures) (c .before .before .if1 .left))
     (answer-last _ 8 _ (facts-over _ _ _ (c .before .fact-total .ensures) (c .if2 .taken))))
 
 returns-4 : tie.Need-returns-4
 unfolding expressions nodes rules facts
 returns-4 c =
-    answer-passed _ _ _ (part-passed _ _ (c .before .before .before .before .enum-told .given .1) (c .before .before .before .before .before .before .admit-nodes .ensures))
+    let passed = c .before .before .before .before in
+    answer-passed _ _ _ (part-passed _ _ (passed .enum-told .given .1) (passed .before .before .admit-nodes .ensures))
     (answer-passed _ _ _ (refuse-first-none 7 _ _ _ (c .before .before .before .first-bad-rule .ensures) (c .before .before .if1 .left))
     (answer-fine _ (facts-within _ _ _ (c .before .fact-total .ensures) (c .if2 .left))))
 

@@ -99,7 +99,8 @@ module _ (S : ℕ) (counts : List ℕ) (k : ℕ) (n : Node) where
       go : Dec (n .name ≡ 0) → FaultlessNode S counts k n
       go (yes z) =
           let none : references counts n ≡ 0 = rw (t, z) in
-          symbol-0 t z (let some = leb-false S (n .name) (rw t at (p .two)) in omega arith) (f .child (omega arith)) (f .first .1 (omega arith)) (f .second .1 (omega arith))
+          let named : n .name < S = leb-false S (n .name) (rw t at (p .two)) in
+          symbol-0 t z (omega arith) (f .child (omega arith)) (f .first .1 (omega arith)) (f .second .1 (omega arith))
       go (no ne) =
           let two : references counts n ≡ 2 = rw (t, ne-eqb (n .name) 0 ne) in
           a-symbol t (omega arith) (leb-false S (n .name) (rw t at (p .two))) (f .child (omega arith)) (f .first .0 (omega arith))

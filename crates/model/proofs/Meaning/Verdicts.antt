@@ -12,7 +12,7 @@ use lib.Dec.{ltb, eqb}
 use lib.ListN.{length}
 use Rattle.foundation.specs.Search.{first, first-at, first-before, first-hit}
 use Rattle.model.specs.Trees.{preorder}
-use Rattle.model.specs.Tables.{Contract, Node, nodeAt}
+use Rattle.model.specs.Tables.{Contract, Node}
 use Rattle.model.specs.Rows.{rowCount, treeAt}
 use Rattle.model.specs.Answers.{Verdict, fine, refused, refuseIf, refuseFirst, refuseLowest, _then_}
 use Rattle.model.specs.Admission.{tagWrong, nameWrong, childWrong, referenceWrong, unusedFilled, nodeFault, lowestNodeFault, mostFacts, sizes, lengths, inputRows, entries, counts, nodes, rules, facts, admission}
@@ -202,7 +202,7 @@ module _ (C : Contract) where
       then-for (inputRows C) _ _ _ (lowest-for 3 _ _) λ e₃.
       then-for (entries C) _ _ _ (lowest-for 4 _ _) λ e₄.
       then-for (counts C) _ _ _ (lowest-for 5 _ _) λ e₅.
-      then-for (nodes C) _ _ _ (each-for _ _ _ (λ k. node-refusals (C .transformation .symbols) (C .transformation .counts) k (nodeAt (C .transformation .nodes) k))) λ e₆.
+      then-for (nodes C) _ _ _ (each-for _ _ _ (λ k. node-refusals _ _ k _)) λ e₆.
       then-for (rules C) _ _ _ (lowest-for 7 _ _) λ e₇.
       only-for _ _ 8 _ (less mostFacts _)
 

@@ -24,7 +24,12 @@ returns : tie.Need-returns
 unfolding nodeFault
 returns c =
     c .first-fault .ensures
-    ∙ rw (c .before .before .before .before .name-wrong .ensures, c .before .before .before .child-wrong .ensures, c .before .before .reference-wrong .ensures, c .before .unused-filled .ensures)
+    ∙ rw (
+      c .before .before .before .before .name-wrong .ensures,
+      c .before .before .before .child-wrong .ensures,
+      c .before .before .reference-wrong .ensures,
+      c .before .unused-filled .ensures,
+    )
 
 pub admit-node-spec : {M : Type 1} → statement M
 admit-node-spec =
