@@ -63,10 +63,10 @@ typedef struct {
  *   4  a mark above 1 or an output entry that is no state: the index through input marks, output table and output
  *      marks laid end to end
  *   5  a parameter count above 2, or procedure 0 with parameters: the procedure
- *   30 to 34  what is wrong with the lowest bad node, the lowest number that applies: the node. docs/REFUSALS.md has what
- *      a good node is, and an example of each:
+ *   30 to 34  what is wrong with the lowest bad node, the lowest number that applies: the node (examples, and how to mend
+ *      them, in docs/REFUSALS.md)
  *      30  its tag is not 0, 1 or 2
- *      31  its name is no parameter (1 or 2), no symbol or no procedure
+ *      31  its name is, by its tag, no parameter (1 or 2), no symbol or no procedure
  *      32  it is a call, and its child is not 1 or 2
  *      33  the number of a node that it refers to is not smaller than its own
  *      34  a field that it does not use is not 0

@@ -28,7 +28,7 @@ fn damage_meets_every_refusal() {
     }
     let mut due = (1..=5).chain([7]).chain(30..=34);
     assert!(due.all(|number| seen[number] > 0), "{seen:?}");
-    assert_eq!(seen[6], 0, "30 to 34 say what 6 did not");
+    assert_eq!(seen[6], 0, "6 no longer occurs");
 }
 
 #[test]

@@ -89,9 +89,9 @@ fn admit_expressions(
     requires { ⌜ nodeCount (now nodes) ≤ 256 ⌝ }
     ensures { λ r. ⌜ admissionAnswer r ≡ admittedUnless (expressions symbols «output_states» (now (counts .entry)) (now (nodes .entry)) (now (rules .entry))) ⌝ }
 {
-    let checked = admit_nodes(symbols, counts, nodes);
-    let AdmissionAnswer::Admitted = checked else {
-        return checked;
+    let answer = admit_nodes(symbols, counts, nodes);
+    let AdmissionAnswer::Admitted = answer else {
+        return answer;
     };
     let rule = first_bad_rule(symbols, counts, nodes, rules);
     if rule < rules.len() / 3 {

@@ -28,7 +28,7 @@ fn name_wrong(symbols: usize, counts: &[u16], node: Node) -> bool
     procedure_wrong(counts.len(), Procedure(node.name))
 }
 
-// A call goes to no child.
+// A call's child is not 1 (left) or 2 (right).
 fn child_wrong(node: Node) -> bool
     ensures { λ r. ⌜ r ≡ childWrong (nodeOf node) ⌝ }
 {

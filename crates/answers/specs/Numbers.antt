@@ -22,12 +22,12 @@ use Rattle.answers.specs.declared.numbered.Answer as code
 use Rattle.answers.specs.declared.numbered.Answer.the-variants as answer
 
 -- "30 tag, 31 name, 32 child, 33 a reference not below the node, 34 unused field filled"
-abbrev pub nodeNumber : NodeFault → ℕ
-nodeNumber node.Tag = 30
-nodeNumber node.Name = 31
-nodeNumber node.Child = 32
-nodeNumber node.Reference = 33
-nodeNumber node.Unused = 34
+abbrev pub nodeFaultNumber : NodeFault → ℕ
+nodeFaultNumber node.Tag = 30
+nodeFaultNumber node.Name = 31
+nodeFaultNumber node.Child = 32
+nodeFaultNumber node.Reference = 33
+nodeFaultNumber node.Unused = 34
 
 -- refusals 1 to 5, 30 to 34, 7 and 8
 abbrev pub contractRefusal : ContractFault → Answer
@@ -36,7 +36,7 @@ contractRefusal (contract.Length place) = refusal 2 place
 contractRefusal (contract.InputRow row) = refusal 3 row
 contractRefusal (contract.Entry index) = refusal 4 index
 contractRefusal (contract.Count procedure) = refusal 5 (procedure .0)
-contractRefusal (contract.Node fault at) = refusal (nodeNumber fault) at
+contractRefusal (contract.Node fault at) = refusal (nodeFaultNumber fault) at
 contractRefusal (contract.Rule rule) = refusal 7 rule
 contractRefusal (contract.Facts total) = refusal 8 total
 

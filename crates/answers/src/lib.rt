@@ -10,7 +10,7 @@ pub enum NodeFault {
     Tag,
     // What it names is no parameter, no symbol or no procedure.
     Name,
-    // A call goes to no child.
+    // A call's child is not 1 (left) or 2 (right).
     Child,
     // It refers to a node whose number is not smaller than its own.
     Reference,

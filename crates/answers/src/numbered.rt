@@ -1,6 +1,6 @@
 // An answer of any of the five operations, in document 01's numbers.
 ghost use mathlib.Core.Path.{_≡_};
-ghost use Rattle.answers.specs.Numbers.{numbered, nodeNumber, contractRefusal, documentRefusal, admissionAnswer, judgingAnswer, checkingAnswer, runningAnswer, writingAnswer};
+ghost use Rattle.answers.specs.Numbers.{numbered, nodeFaultNumber, contractRefusal, documentRefusal, admissionAnswer, judgingAnswer, checkingAnswer, runningAnswer, writingAnswer};
 use crate::AdmissionAnswer;
 use crate::CheckingAnswer;
 use crate::ContractFault;
@@ -22,8 +22,8 @@ pub enum Answer {
 }
 
 // The number of a node's fault.
-fn node_number(fault: NodeFault) -> usize
-    ensures { λ r. ⌜ r ≡ nodeNumber fault ⌝ }
+fn node_fault_number(fault: NodeFault) -> usize
+    ensures { λ r. ⌜ r ≡ nodeFaultNumber fault ⌝ }
 {
     match fault {
         NodeFault::Tag => 30,
@@ -43,7 +43,7 @@ fn of_contract(fault: ContractFault) -> Answer
         ContractFault::InputRow(row) => Answer::Refused(3, row),
         ContractFault::Entry(index) => Answer::Refused(4, index),
         ContractFault::Count(procedure) => Answer::Refused(5, procedure.0 as usize),
-        ContractFault::Node(fault, node) => Answer::Refused(node_number(fault), node),
+        ContractFault::Node(fault, node) => Answer::Refused(node_fault_number(fault), node),
         ContractFault::Rule(rule) => Answer::Refused(7, rule),
         ContractFault::Facts(total) => Answer::Refused(8, total),
     }

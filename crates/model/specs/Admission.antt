@@ -75,13 +75,13 @@ nameWrong S counts n =
 abbrev pub childWrong : Node → Bool
 childWrong n = eqb (n .tag) 2 && outside 1 2 (n .child)
 
--- field i of a node, its first or its second: a reference that is no smaller node number
-abbrev pub fieldWrong : (references i k field : ℕ) → Bool
-fieldWrong references i k field = leb i references && leb k field
+-- field i of a node that uses so many of the two, its first and its second: it is used and no smaller node number
+abbrev pub fieldWrong : (used i k field : ℕ) → Bool
+fieldWrong used i k field = leb i used && leb k field
 
--- and one that is no reference and not 0
-abbrev pub fieldFilled : (references i field : ℕ) → Bool
-fieldFilled references i field = ltb references i && not (eqb field 0)
+-- it is not used and not 0
+abbrev pub fieldFilled : (used i field : ℕ) → Bool
+fieldFilled used i field = ltb used i && not (eqb field 0)
 
 -- "elsewhere a filled child is 34"
 abbrev pub childFilled : Node → Bool

@@ -180,7 +180,7 @@ pub record Refuses (reasons : List Reason) (Answers : (number place : ℕ) → T
 pub data AdmissionNumber (number : ℕ) : Type 0 where
   to-5 : 1 ≤ number → number ≤ 5 → AdmissionNumber number
   of-node : 30 ≤ number → number ≤ 34 → AdmissionNumber number
-  of-rules : 7 ≤ number → number ≤ 8 → AdmissionNumber number
+  of-rules-and-facts : 7 ≤ number → number ≤ 8 → AdmissionNumber number
 
 -- "13, no rule (procedure); 14, a row is due and none is free ..; 15, a call past 65,536"
 abbrev pub NotOfRun : ℕ → Type 0

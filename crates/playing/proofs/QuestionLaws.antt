@@ -14,7 +14,7 @@ use Rattle.foundation.specs.Search.{first}
 use Rattle.model.specs.Tables.{Contract}
 use Rattle.model.specs.Answers.{Verdict, fine, refused, _then_, refuseIf, refuseFirst, Answer, refusal, given}
 use Rattle.model.specs.Admission.{admission}
-use Rattle.model.specs.Refusals.{AdmissionNumber, to-5, of-node, of-rules}
+use Rattle.model.specs.Refusals.{AdmissionNumber, to-5, of-node, of-rules-and-facts}
 use Rattle.model.proofs.Laws.Answers.{Numbers}
 use Rattle.model.proofs.Laws.Admitted.{admission-numbers}
 use Rattle.model.specs.Documents.{document}
@@ -45,7 +45,7 @@ nine-quiet (refused number place) of-admission = go (of-admission number place r
     go : AdmissionNumber number → (eqb number 10 || (leb 13 number && leb number 15)) ≡ false
     go (to-5 l m) = rw (ne-eqb number 10 (omega arith), lt-leb 13 number (omega arith))
     go (of-node l m) = rw (ne-eqb number 10 (omega arith), le-leb 13 number (omega arith), lt-leb number 15 (omega arith))
-    go (of-rules l m) = rw (ne-eqb number 10 (omega arith), lt-leb 13 number (omega arith))
+    go (of-rules-and-facts l m) = rw (ne-eqb number 10 (omega arith), lt-leb 13 number (omega arith))
 
 given-nine : {A : Type 0} (f : Answer → A) (v : Verdict) (a : A) → given (v then refused 9 0) (λ number place. f (refusal number place)) a ≡ f (nine v)
 unfolding given _then_

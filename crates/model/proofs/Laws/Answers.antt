@@ -114,7 +114,7 @@ module _ (verdict : ℕ → Verdict) where
       go (yes l) below = below l
       go (no l) below = let last : k ≡ n = omega arith in rw last (then-fine-right _ _ e)
 
-  -- what is given comes of such a one
+  -- a refusal that is given is that of an entry below which none is refused
   pub record Lowest (n number place : ℕ) : Type 0 where
     pub entry : ℕ
     pub inside : entry < n

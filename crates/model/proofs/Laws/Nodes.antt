@@ -1,5 +1,5 @@
 -- Nodes: a node has no fault exactly if it is one of those that document 01 describes; and what all others need to know of it.
-use mathlib.Core.Path.{_≡_, ap}
+use mathlib.Core.Path.{_≡_}
 use mathlib.Core.Bool.{false, _||_, not}
 use mathlib.Core.List.{List}
 use mathlib.Core.Logic.{_↔_}
@@ -18,26 +18,26 @@ use Rattle.model.proofs.Laws.Established.{GoodNode, good-parameter, goo
 use Rattle.model.proofs.Laws.Tests.{and-right, NoneOf, inside, not-outside, not-eqb}
 
 -- a field that is a reference and one that is not, by the tests
-module _ (references i k field : ℕ) where
-  field-told : fieldWrong references i k field ≡ false → fieldFilled references i field ≡ false → ArgumentField references i k field
+module _ (used i k field : ℕ) where
+  field-told : fieldWrong used i k field ≡ false → fieldFilled used i field ≡ false → ArgumentField used i k field
   field-told right empty = (
-    λ h. leb-false k field (and-right _ _ right (le-leb i references h)),
-    λ h. not-eqb field 0 (and-right _ _ empty (lt-ltb references i h)),
+    λ h. leb-false k field (and-right _ _ right (le-leb i used h)),
+    λ h. not-eqb field 0 (and-right _ _ empty (lt-ltb used i h)),
   )
 
-  field-right : ArgumentField references i k field → fieldWrong references i k field ≡ false
-  field-right f = go (decLt references i)
+  field-right : ArgumentField used i k field → fieldWrong used i k field ≡ false
+  field-right f = go (decLt used i)
     where
-      go : Dec (references < i) → fieldWrong references i k field ≡ false
-      go (yes l) = rw (lt-leb i references l)
-      go (no l) = rw (le-leb i references (omega arith), lt-leb k field (f .0 (omega arith)))
+      go : Dec (used < i) → fieldWrong used i k field ≡ false
+      go (yes l) = rw (lt-leb i used l)
+      go (no l) = rw (le-leb i used (omega arith), lt-leb k field (f .0 (omega arith)))
 
-  field-empty : ArgumentField references i k field → fieldFilled references i field ≡ false
-  field-empty f = go (decLt references i)
+  field-empty : ArgumentField used i k field → fieldFilled used i field ≡ false
+  field-empty f = go (decLt used i)
     where
-      go : Dec (references < i) → fieldFilled references i field ≡ false
-      go (yes l) = rw (lt-ltb references i l, f .1 l)
-      go (no l) = rw (le-ltb references i (omega arith))
+      go : Dec (used < i) → fieldFilled used i field ≡ false
+      go (yes l) = rw (lt-ltb used i l, f .1 l)
+      go (no l) = rw (le-ltb used i (omega arith))
 
 module _ (S : ℕ) (counts : List ℕ) (k : ℕ) (n : Node) where
   -- none of the five faults
@@ -64,7 +64,7 @@ module _ (S : ℕ) (counts : List ℕ) (k : ℕ) (n : Node) where
 
   -- what no fault says of the fields behind the name
   record Fields : Type 0 where
-    child : (n .tag ≡ 2 → ⊥) → n .child ≡ 0
+    child : childFilled n ≡ false
     first : ArgumentField (references counts n) 1 k (n .first)
     second : ArgumentField (references counts n) 2 k (n .second)
 
@@ -77,7 +77,7 @@ module _ (S : ℕ) (counts : List ℕ) (k : ℕ) (n : Node) where
       let filled₂ = fieldFilled used 2 (n .second) in
       let front : (childFilled n || filled₁) ≡ false = or-first (childFilled n || filled₁) filled₂ (p .five) in
       record {
-        child = λ other. not-eqb (n .child) 0 (and-right _ _ (or-first (childFilled n) filled₁ front) (ap not (ne-eqb (n .tag) 2 other)));
+        child = or-first (childFilled n) filled₁ front;
         first = field-told used 1 k (n .first) (or-first wrong₁ wrong₂ (p .four)) (or-second (childFilled n) filled₁ front);
         second = field-told used 2 k (n .second) (or-second wrong₁ wrong₂ (p .four)) (or-second (childFilled n || filled₁) filled₂ (p .five));
       }
@@ -88,7 +88,7 @@ module _ (S : ℕ) (counts : List ℕ) (k : ℕ) (n : Node) where
       let name = inside 1 2 (n .name) (rw t at (p .two)) in
       let none : references counts n ≡ 0 = rw t in
       let f = fields p in
-      a-parameter t (name .least≤) (name .≤most) (f .child (omega arith)) (f .first .1 (omega arith)) (f .second .1 (omega arith))
+      a-parameter t (name .least≤) (name .≤most) (not-eqb (n .child) 0 (rw t at (f .child))) (f .first .1 (omega arith)) (f .second .1 (omega arith))
 
   faultless-symbol : NoFault → n .tag ≡ 1 → FaultlessNode S counts k n
   faultless-symbol p t = go (ℕ-discrete (n .name) 0)
@@ -100,10 +100,10 @@ module _ (S : ℕ) (counts : List ℕ) (k : ℕ) (n : Node) where
       go (yes z) =
           let none : references counts n ≡ 0 = rw (t, z) in
           let named : n .name < S = leb-false S (n .name) (rw t at (p .two)) in
-          symbol-0 t z (omega arith) (f .child (omega arith)) (f .first .1 (omega arith)) (f .second .1 (omega arith))
+          symbol-0 t z (omega arith) (not-eqb (n .child) 0 (rw t at (f .child))) (f .first .1 (omega arith)) (f .second .1 (omega arith))
       go (no ne) =
           let two : references counts n ≡ 2 = rw (t, ne-eqb (n .name) 0 ne) in
-          a-symbol t (omega arith) (leb-false S (n .name) (rw t at (p .two))) (f .child (omega arith)) (f .first .0 (omega arith))
+          a-symbol t (omega arith) (leb-false S (n .name) (rw t at (p .two))) (not-eqb (n .child) 0 (rw t at (f .child))) (f .first .0 (omega arith))
           (f .second .0 (omega arith))
 
   faultless-call : NoFault → n .tag ≡ 2 → FaultlessNode S counts k n

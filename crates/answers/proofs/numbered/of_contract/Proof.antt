@@ -24,8 +24,8 @@ cast-t12 c = search needs
 enum-known-fault-6 : tie.Need-enum-known-fault-6
 enum-known-fault-6 c = search needs
 
-node-number-requires : tie.Need-node-number-requires
-node-number-requires c κs = search needs
+node-fault-number-requires : tie.Need-node-fault-number-requires
+node-fault-number-requires c κs = search needs
 
 enum-known-fault-7 : tie.Need-enum-known-fault-7
 enum-known-fault-7 c = search needs
@@ -49,7 +49,7 @@ returns-5 : tie.Need-returns-5
 returns-5 c = rw (c .before .before .fault5 .given .1)
 
 returns-6 : tie.Need-returns-6
-returns-6 c = rw (c .before .before .fault6 .given .1, c .node-number .ensures)
+returns-6 c = rw (c .before .before .fault6 .given .1, c .node-fault-number .ensures)
 
 returns-7 : tie.Need-returns-7
 returns-7 c = rw (c .before .fault7 .given .1)
@@ -68,7 +68,7 @@ of-contract-spec =
     enum-known-fault-5
     cast-t12
     enum-known-fault-6
-    node-number-requires
+    node-fault-number-requires
     enum-known-fault-7
     enum-known-fault-8
     returns

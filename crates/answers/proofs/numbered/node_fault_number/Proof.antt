@@ -1,7 +1,7 @@
--- `node_number` meets its contract, case by case.
+-- `node_fault_number` meets its contract, case by case.
 use borrow.Author.Needs.{needs}
-use Rattle.answers.proofs.numbered.node_number.Statement.{statement}
-use Rattle.answers.proofs.numbered.node_number.Tie as tie
+use Rattle.answers.proofs.numbered.node_fault_number.Statement.{statement}
+use Rattle.answers.proofs.numbered.node_fault_number.Tie as tie
 
 enum-told : tie.Need-enum-told
 enum-told c = search needs
@@ -33,8 +33,8 @@ returns-4 c = rw (c .enum-told4 .given .1)
 returns-5 : tie.Need-returns-5
 returns-5 c = rw (c .enum-told5 .given .1)
 
-pub node-number-spec : {M : Type 1} → statement M
-node-number-spec =
+pub node-fault-number-spec : {M : Type 1} → statement M
+node-fault-number-spec =
     tie.close
     (tie.spec
     enum-told
