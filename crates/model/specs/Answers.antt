@@ -32,17 +32,27 @@ refuseLowest verdict (suc n) = refuseLowest verdict n then verdict n
 pub data Answer : Type 0 where
   -- "the contract is admitted, with no number"
   admitted : Answer
-  -- "the result is 0, .. 1, .. 2"
-  judged : (result : ℕ) → Answer
+  -- "the result is 0, .. 1, .. 2"; "how many numbers it took"
+  judged : (result taken : ℕ) → Answer
   -- "'Tree' with row j", "'Pass' with the count"
   tree : (row : ℕ) → Answer
   pass : (count : ℕ) → Answer
-  -- "root row and rows used come back"
-  ran : (root used : ℕ) → Answer
+  -- "root row and rows used come back"; "how many numbers it took"
+  ran : (root used taken : ℕ) → Answer
   -- "the count returns"
   written : (count : ℕ) → Answer
   -- number and place
   refusal : (number place : ℕ) → Answer
+
+-- "how many numbers it took", where an answer tells it
+abbrev pub takenIn : Answer → ℕ
+takenIn admitted = 0
+takenIn (judged result taken) = taken
+takenIn (tree row) = 0
+takenIn (pass count) = 0
+takenIn (ran root used taken) = taken
+takenIn (written count) = 0
+takenIn (refusal number place) = 0
 
 -- what is given where nothing is refused, and otherwise the refusal
 unfoldable pub given {ℓ} : {A : Type ℓ} → Verdict → (ℕ → ℕ → A) → A → A

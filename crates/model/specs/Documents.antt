@@ -1,11 +1,12 @@
 -- Documents: the tree that a stretch of numbers begins with, how many numbers it takes, and the fault where there is none.
-use mathlib.Core.List.{List, [], _∷_}
+use mathlib.Core.Bool.{Bool, false, _&&_}
+use mathlib.Core.List.{List, [], _∷_, _++_}
 use Prim.Native.Nat.{ℕ, zero, suc, _+_, _-_}
 use lib.Dec.{leb, eqb, ltb}
 use lib.ListN.{length, take}
 use Rattle.foundation.specs.Tests.{choose}
-use Rattle.model.specs.Trees.{Tree, empty, node}
-use Rattle.model.specs.Answers.{Verdict, refused, refuseIf, _then_}
+use Rattle.model.specs.Trees.{Tree, empty, node, preorder}
+use Rattle.model.specs.Answers.{Verdict, fine, refused, refuseIf, _then_}
 
 -- "A document is its symbols in preorder, 1 to 1,023 numbers."
 abbrev pub mostNumbers : ℕ
@@ -22,6 +23,16 @@ joined (suc s) (l ∷ r ∷ ts) = node (suc s) l r ∷ ts
 unfoldable pub forest : List ℕ → List Tree
 forest [] = []
 forest (x ∷ xs) = joined x (forest xs)
+
+-- each tree has the property
+abbrev pub All : (Tree → Type 0) → List Tree → Type 0
+All P [] = Unit {0}
+All P (t ∷ ts) = P t × All P ts
+
+-- the numbers of trees laid end to end
+unfoldable pub preorders : List Tree → List ℕ
+preorders [] = []
+preorders (t ∷ ts) = preorder t ++ preorders ts
 
 abbrev pub firstTree : List Tree → Tree
 firstTree [] = empty
@@ -51,11 +62,39 @@ treeOf n xs = firstTree (forest (take n xs))
 unfoldable pub documentTree : List ℕ → Tree
 documentTree xs = treeOf (length xs) xs
 
--- "12, the first number not below S or after the tree has ended, or the length if the tree has not ended"
-unfoldable pub wholeTree : ℕ → Leading → Verdict
-wholeTree n (ends at) = refuseIf (ltb at n) 12 at
-wholeTree n (faulty at) = refused 12 at
+-- "Judging and running use the leading tree": how the numbers handed in begin, by "the first 1,023 numbers" alone
+unfoldable pub reading : ℕ → List ℕ → Leading
+reading S xs = leading S (take mostNumbers xs)
 
--- "11, over 1,023 numbers (the length); 12, .."
-unfoldable pub document : ℕ → List ℕ → Verdict
-document S xs = refuseIf (ltb mostNumbers (length xs)) 11 (length xs) then wholeTree (length xs) (leading S xs)
+abbrev pub takenBy : Leading → ℕ
+takenBy (ends n) = n
+takenBy (faulty at) = 0
+
+-- "how many numbers it took"
+unfoldable pub numbersTaken : ℕ → List ℕ → ℕ
+numbersTaken S xs = takenBy (reading S xs)
+
+unfoldable pub leadingTree : ℕ → List ℕ → Tree
+leadingTree S xs = documentTree (take (numbersTaken S xs) xs)
+
+-- of n numbers, "the first 1,023 numbers hold neither a fault nor the end of the tree and more follow"
+unfoldable pub endless : ℕ → Leading → Bool
+endless n (ends at) = false
+endless n (faulty at) = eqb at mostNumbers && ltb at n
+
+-- "12, the first number not below S .. or the length if the tree has not ended"; "no longer given there for numbers after the tree"
+unfoldable pub faultOf : Leading → Verdict
+faultOf (ends at) = fine
+faultOf (faulty at) = refused 12 at
+
+-- "11 is given exactly if ..", with document 01's place (the length); 12, ..
+unfoldable pub leadingVerdict : ℕ → List ℕ → Verdict
+leadingVerdict S xs = refuseIf (endless (length xs) (reading S xs)) 11 (length xs) then faultOf (reading S xs)
+
+-- a document and nothing else: the leading tree takes all. "11, over 1,023 numbers (the length); 12, the first number not below S or
+-- after the tree has ended, or the length if the tree has not ended"
+unfoldable pub wholeVerdict : ℕ → List ℕ → Verdict
+wholeVerdict S xs =
+    refuseIf (ltb mostNumbers (length xs)) 11 (length xs)
+    then leadingVerdict S xs
+    then refuseIf (ltb (numbersTaken S xs) (length xs)) 12 (numbersTaken S xs)

@@ -1,14 +1,14 @@
--- Judging a document: the answer and the closing kind buffer.
+-- Judging the document that what is handed in begins with: the answer and the closing kind buffer.
 use mathlib.Core.Bool.{not}
-use mathlib.Core.List.{List}
-use Prim.Native.Nat.{ℕ}
+use mathlib.Core.List.{List, [], _∷_}
+use Prim.Native.Nat.{ℕ, zero, suc}
 use lib.Dec.{eqb}
-use lib.ListN.{length}
+use lib.ListN.{length, drop}
 use Rattle.foundation.specs.Tests.{choose}
 use Rattle.model.specs.Tables.{Contract}
-use Rattle.model.specs.Answers.{Verdict, refuseIf, _then_, Answer, judged, refusal, given}
+use Rattle.model.specs.Answers.{Verdict, refuseIf, _then_, Answer, judged, refusal, takenIn, given}
 use Rattle.model.specs.Admission.{admission}
-use Rattle.model.specs.Documents.{document, documentTree}
+use Rattle.model.specs.Documents.{numbersTaken, leadingTree, leadingVerdict}
 use Rattle.model.specs.Kinds.{kindOf, ofInputType, breaks}
 
 pub record Judged : Type 0 where
@@ -22,11 +22,20 @@ module _ (C : Contract) where
 
   -- "1 to 8; then 9, the kind buffer is not five words (place 0); 11, ..; 12, .."
   unfoldable pub judgingVerdict : (numbers buffer : List ℕ) → Verdict
-  judgingVerdict numbers buffer = admission C then refuseIf (not (eqb (length buffer) 5)) 9 0 then document (C .transformation .symbols) numbers
+  judgingVerdict numbers buffer = admission C then refuseIf (not (eqb (length buffer) 5)) 9 0 then leadingVerdict (C .transformation .symbols) numbers
 
-  -- "These write nothing. Otherwise the kind is written and the result is 0, .. 1, .. 2"
+  -- "These write nothing. Otherwise the kind is written and the result is 0, .. 1, .. 2", with how many numbers the leading tree took
   unfoldable pub judging : (numbers buffer : List ℕ) → Judged
   judging numbers buffer =
-      let kind : List ℕ = kindOf C (documentTree numbers) in
+      let S : ℕ = C .transformation .symbols in
+      let kind : List ℕ = kindOf C (leadingTree S numbers) in
       given (judgingVerdict numbers buffer) (λ number place. record { answer = refusal number place; words = buffer })
-      (record { answer = judged (judgement kind); words = kind })
+      (record { answer = judged (judgement kind) (numbersTaken S numbers); words = kind })
+
+  -- "Collectors' buffers hold many documents.": judging one n times, each time from where the last tree ended, with the kind buffer as
+  -- it was left
+  unfoldable pub judgingInTurn : ℕ → (numbers buffer : List ℕ) → List Judged
+  judgingInTurn zero numbers buffer = []
+  judgingInTurn (suc n) numbers buffer =
+      let now : Judged = judging numbers buffer in
+      now ∷ judgingInTurn n (drop (takenIn (now .answer)) numbers) (now .words)

@@ -1,22 +1,23 @@
 -- What the answers of judging, checking and running mean for all trees, as statements. proofs/Meaning proves them.
 use mathlib.Core.Path.{_≡_}
 use mathlib.Core.Bool.{false}
-use mathlib.Core.List.{List, [], _∷_}
+use mathlib.Core.List.{List, [], _∷_, _++_, map}
 use mathlib.Core.Logic.{_↔_}
 use Prim.Native.Nat.{ℕ, suc, _*_, _<_, _≤_}
 use lib.Dec.{T}
 use lib.ListN.{length, getD, take, replicate}
-use Rattle.model.specs.Trees.{Tree, height, Over}
-use Rattle.model.specs.Documents.{documentTree}
+use Rattle.model.specs.Trees.{Tree, height, Over, preorder}
+use Rattle.model.specs.Documents.{mostNumbers, preorders}
 use Rattle.model.specs.Rows.{rowCount, treeAt}
 use Rattle.model.specs.Tables.{Contract}
 use Rattle.model.specs.Answers.{Answer, judged, tree, pass, refusal}
 use Rattle.model.specs.Kinds.{emptyKind, kindOf, breaks}
 use Rattle.model.specs.Rounds.{kindAutomaton, ListedKind, kindAt, rounds}
 use Rattle.model.specs.Checking.{greatestLimit, Checked, standing, checking}
+use Rattle.model.specs.Judging.{judging, judgingInTurn}
 use Rattle.model.specs.Outputs.{Output}
 use Rattle.model.specs.Running.{mostCalls, running}
-use Rattle.model.specs.Refusals.{DocumentOf, judgingReasons, Refuses}
+use Rattle.model.specs.Refusals.{LeadingDocument, judgingReasons, Refuses}
 use Rattle.model.specs.Claims.{Takes, Breaks, Admitted}
 
 -- the trees that a contract speaks of: those over its symbols
@@ -29,24 +30,36 @@ pub record Judges (C : Contract) (t : Tree) (result : ℕ) : Type 0 where
   pub one : (result ≡ 1) ↔ (Takes C t × (Breaks C t → ⊥))
   pub two : (result ≡ 2) ↔ Breaks C t
 
--- when judging gives a result, and which: "Otherwise the kind is written and the result is 0, .. 1, .. 2"
-pub record JudgedMeans (C : Contract) (numbers buffer : List ℕ) (result : ℕ) : Type 0 where
+-- when judging gives a result, and which: "Otherwise the kind is written and the result is 0, .. 1, .. 2"; it is that of the document
+-- that the numbers begin with, and comes with how many numbers that took
+pub record JudgedMeans (C : Contract) (numbers buffer : List ℕ) (result taken : ℕ) : Type 0 where
   pub isAdmitted : Admitted C
   pub fiveWords : length buffer ≡ 5
   pub document : Tree
-  pub isDocument : DocumentOf (C .transformation .symbols) numbers document
+  pub leads : LeadingDocument (C .transformation .symbols) numbers document taken
   pub judges : Judges C document result
 
 pub data JudgedOrRefused (answer : Answer) : Type 0 where
-  is-judged : (result : ℕ) → answer ≡ judged result → JudgedOrRefused answer
+  is-judged : (result taken : ℕ) → answer ≡ judged result taken → JudgedOrRefused answer
   is-refused : (number place : ℕ) → answer ≡ refusal number place → JudgedOrRefused answer
 
 -- what an answer of judging and the closing words say of the numbers handed in; of a refusal see `OperationRefusals`
 pub record JudgingMeans (C : Contract) (numbers buffer : List ℕ) (answer : Answer) (words : List ℕ) : Type 0 where
   pub judgedOrRefused : JudgedOrRefused answer
-  pub judgedExactly : (result : ℕ) → (answer ≡ judged result) ↔ JudgedMeans C numbers buffer result
-  pub kindWritten : (result : ℕ) → answer ≡ judged result → (t : Tree) → DocumentOf (C .transformation .symbols) numbers t → words ≡ kindOf C t
+  pub judgedExactly : (result taken : ℕ) → (answer ≡ judged result taken) ↔ JudgedMeans C numbers buffer result taken
+  pub kindWritten : (result taken : ℕ) → answer ≡ judged result taken → (t : Tree) → LeadingDocument (C .transformation .symbols) numbers t taken
+      → words ≡ kindOf C t
   pub refuses : Refuses (judgingReasons C numbers buffer) (λ number place. answer ≡ refusal number place) (buffer ∷ []) (words ∷ [])
+
+-- a tree that is some document's: "1 to 1,023 numbers"
+abbrev pub IsDocument : Contract → Tree → Type 0
+IsDocument C t = TreeOf C t × (length (preorder t) ≤ mostNumbers)
+
+-- documents laid end to end, whatever stands behind them: judged one after another, each from where the last one ended, they are judged
+-- in their order, as each is alone, whatever the kind buffers held
+abbrev pub JudgesInTurn : Contract → List Tree → (rest buffer other : List ℕ) → Type 0
+JudgesInTurn C documents rest buffer other =
+    judgingInTurn C (length documents) (preorders documents ++ rest) buffer ≡ map (λ (t : Tree). judging C (preorder t) other) documents
 
 -- lists, read with a default that no statement depends on: no entry stands twice; an entry stands there
 pub record AllDiffer {A : Type 0} (default : A) (entries : List A) : Type 0 where
@@ -155,9 +168,12 @@ pub record CheckMeans (C : Contract) (lent : Lent) : Type 0 where
       → checkOf C lent ≡ standing C (lent .limit) (tree j) (take (suc j) (kindRounds C (lent .limit)))
   pub stopRows : checkOf C lent .answer ≡ refusal 10 (lent .limit) → checkOf C lent ≡ standing C (lent .limit) (refusal 10 (lent .limit)) []
 
--- "root row and rows used come back"; "The tree is one of the outputs defined above.": what the answer of a run says
-pub record RanOutput (C : Contract) (numbers buffer : List ℕ) (root used : ℕ) : Type 0 where
-  pub output : Output (C .transformation) 0 (documentTree numbers) [] (treeAt (running C numbers buffer .rows) root)
+-- "root row and rows used come back"; "The tree is one of the outputs defined above.": what the answer of a run says, of the document
+-- that the numbers begin with
+pub record RanOutput (C : Contract) (numbers buffer : List ℕ) (root used taken : ℕ) : Type 0 where
+  pub document : Tree
+  pub leads : LeadingDocument (C .transformation .symbols) numbers document taken
+  pub output : Output (C .transformation) 0 document [] (treeAt (running C numbers buffer .rows) root)
   pub inside : root < used
   pub room : used ≤ rowCount buffer
 

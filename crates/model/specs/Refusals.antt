@@ -13,7 +13,7 @@ use Rattle.model.specs.Rows.{rowAt, rowCount, treeAt}
 use Rattle.model.specs.Facts.{factTotal}
 use Rattle.model.specs.Answers.{Verdict, fine, refused, refusal}
 use Rattle.model.specs.Admission.{sizeWrong, lengthWrong, inputRowWrong, entryWrong, countWrong, tagWrong, nameWrong, childWrong, referenceWrong, unusedFilled, ruleWrong, mostFacts, admit}
-use Rattle.model.specs.Documents.{mostNumbers, document, documentTree}
+use Rattle.model.specs.Documents.{mostNumbers, numbersTaken, leadingTree, leadingVerdict, wholeVerdict}
 use Rattle.model.specs.Judging.{judging}
 use Rattle.model.specs.Checking.{limitWrong, checking}
 use Rattle.model.specs.Running.{rowsWrong, running}
@@ -66,44 +66,64 @@ pub record LowestEntry (reasons : ℕ → List Reason) (n number place : ℕ) : 
   pub itsFirst : FirstReason (reasons entry) number place
   pub noneBefore : (j : ℕ) → j < entry → NoReason (reasons j)
 
--- "the tree has ended": the numbers begin with those of a tree over S, all of them before that place
-pub record EndedBefore (S : ℕ) (numbers : List ℕ) (place : ℕ) : Type 0 where
-  pub tree : Tree
+-- "the leading tree": the numbers begin with those of a tree over S, and it takes so many; nothing is said of what follows
+pub record BeginsWith (S : ℕ) (numbers : List ℕ) (tree : Tree) (taken : ℕ) : Type 0 where
   pub over : Over S tree
   pub rest : List ℕ
-  pub begins : numbers ≡ preorder tree ++ rest
-  pub before : length (preorder tree) ≤ place
+  pub inPreorder : numbers ≡ preorder tree ++ rest
+  pub took : taken ≡ length (preorder tree)
 
--- a "number not below S or after the tree has ended"
-pub data Misplaced (S : ℕ) (numbers : List ℕ) (place : ℕ) : Type 0 where
-  no-symbol : S ≤ getD numbers place 0 → Misplaced S numbers place
-  after-tree : EndedBefore S numbers place → Misplaced S numbers place
+-- "the end of the tree" is among the first n numbers
+pub record EndsWithin (S : ℕ) (numbers : List ℕ) (n : ℕ) : Type 0 where
+  pub tree : Tree
+  pub taken : ℕ
+  pub begins : BeginsWith S numbers tree taken
+  pub within : taken ≤ n
 
--- none of the first n numbers is one
-abbrev pub AllPlaced : ℕ → List ℕ → ℕ → Type 0
-AllPlaced S numbers n = (j : ℕ) → j < n → Misplaced S numbers j → ⊥
+-- the first n numbers "hold neither a fault nor the end of the tree"
+pub record GoesOn (S : ℕ) (numbers : List ℕ) (n : ℕ) : Type 0 where
+  pub symbols : (j : ℕ) → j < n → getD numbers j 0 < S
+  pub notEnded : EndsWithin S numbers n → ⊥
 
--- "12, the first number not below S or after the tree has ended, or the length if the tree has not ended"
+-- "12, the first number not below S .., or the length if the tree has not ended"
 pub data Fault (S : ℕ) (numbers : List ℕ) (place : ℕ) : Type 0 where
-  at-number : place < length numbers → Misplaced S numbers place → AllPlaced S numbers place → Fault S numbers place
-  at-end : place ≡ length numbers → AllPlaced S numbers (length numbers) → (EndedBefore S numbers (length numbers) → ⊥) → Fault S numbers place
+  not-below : GoesOn S numbers place → place < length numbers → S ≤ getD numbers place 0 → Fault S numbers place
+  cut-short : GoesOn S numbers place → place ≡ length numbers → Fault S numbers place
 
--- "11, over 1,023 numbers (the length); 12, .."
-abbrev pub documentReasons : ℕ → List ℕ → List Reason
-documentReasons S numbers = only 11 (mostNumbers < length numbers) (length numbers) ∷ withNumber 12 (Fault S numbers) ∷ []
+-- "11 is given exactly if the first 1,023 numbers hold neither a fault nor the end of the tree and more follow", with document 01's
+-- place (the length); then 12
+abbrev pub leadingReasons : ℕ → List ℕ → List Reason
+leadingReasons S numbers =
+    only 11 (GoesOn S numbers mostNumbers × (mostNumbers < length numbers)) (length numbers) ∷ withNumber 12 (Fault S numbers) ∷ []
 
--- "A document is its symbols in preorder, 1 to 1,023 numbers.": the numbers of a tree over S
-pub record DocumentOf (S : ℕ) (numbers : List ℕ) (tree : Tree) : Type 0 where
-  pub over : Over S tree
-  pub inPreorder : numbers ≡ preorder tree
-  pub few : length numbers ≤ mostNumbers
+-- "Judging and running use the leading tree": "a document is its symbols in preorder, 1 to 1,023 numbers"
+pub record LeadingDocument (S : ℕ) (numbers : List ℕ) (tree : Tree) (taken : ℕ) : Type 0 where
+  pub begins : BeginsWith S numbers tree taken
+  pub few : taken ≤ mostNumbers
 
--- what is read of numbers: 11, 12, or a document, and which tree it is
-pub record DocumentVerdict (S : ℕ) (numbers : List ℕ) : Type 0 where
-  pub tooLong : (place : ℕ) → (document S numbers ≡ refused 11 place) ↔ ((mostNumbers < length numbers) × (place ≡ length numbers))
-  pub faulty : (place : ℕ) → (document S numbers ≡ refused 12 place) ↔ ((length numbers ≤ mostNumbers) × Fault S numbers place)
-  pub whole : (document S numbers ≡ fine) ↔ ((tree : Tree) × DocumentOf S numbers tree)
-  pub read : (tree : Tree) → DocumentOf S numbers tree → documentTree numbers ≡ tree
+-- what is read of numbers: exactly if they begin with a document nothing is refused, and which tree and how many numbers are read then
+pub record ReadsLeading (S : ℕ) (numbers : List ℕ) : Type 0 where
+  pub refuses : RefusesFor (leadingReasons S numbers) (leadingVerdict S numbers)
+  pub passes : (leadingVerdict S numbers ≡ fine) ↔ ((tree : Tree) × (taken : ℕ) × LeadingDocument S numbers tree taken)
+  pub tree : (tree : Tree) (taken : ℕ) → LeadingDocument S numbers tree taken → leadingTree S numbers ≡ tree
+  pub taken : (tree : Tree) (taken : ℕ) → LeadingDocument S numbers tree taken → numbersTaken S numbers ≡ taken
+
+-- a document and nothing else: the leading tree takes all
+abbrev pub DocumentOf : ℕ → List ℕ → Tree → Type 0
+DocumentOf S numbers tree = LeadingDocument S numbers tree (length numbers)
+
+-- "11, over 1,023 numbers (the length); 12, the first number not below S or after the tree has ended, or the length if the tree has
+-- not ended"
+abbrev pub wholeReasons : ℕ → List ℕ → List Reason
+wholeReasons S numbers =
+    only 11 (mostNumbers < length numbers) (length numbers)
+    ∷ leadingReasons S numbers
+    ++ (withNumber 12 (λ place. ((tree : Tree) × LeadingDocument S numbers tree place) × (place < length numbers)) ∷ [])
+
+-- what is said of numbers that are to be a document and nothing else
+pub record ReadsWhole (S : ℕ) (numbers : List ℕ) : Type 0 where
+  pub refuses : RefusesFor (wholeReasons S numbers) (wholeVerdict S numbers)
+  pub passes : (wholeVerdict S numbers ≡ fine) ↔ ((tree : Tree) × DocumentOf S numbers tree)
 
 -- "30 tag, 31 name, 32 child, 33 a reference not below the node, 34 unused field filled": the faults of node k
 abbrev pub nodeReasons : ℕ → List ℕ → ℕ → Node → List Reason
@@ -149,7 +169,7 @@ module _ (C : Contract) where
 
   -- "1 to 8; then 9, the kind buffer is not five words (place 0); 11, ..; 12, .."
   abbrev pub judgingReasons : (numbers buffer : List ℕ) → List Reason
-  judgingReasons numbers buffer = admissionReasons ++ (only 9 (length buffer ≡ 5 → ⊥) 0 ∷ documentReasons (C .transformation .symbols) numbers)
+  judgingReasons numbers buffer = admissionReasons ++ (only 9 (length buffer ≡ 5 → ⊥) 0 ∷ leadingReasons (C .transformation .symbols) numbers)
 
   -- "1 to 8; then 9, the limit L is not 1 to 512, the row buffer not 3 × L numbers, or the word buffer not 5 × L words (place
   -- 0, 1, 2)"
@@ -159,7 +179,7 @@ module _ (C : Contract) where
   -- "1 to 8; 9, the row buffer's length is no multiple of three or above 12,288 (place 0); 11; 12"
   abbrev pub runningReasons : (numbers buffer : List ℕ) → List Reason
   runningReasons numbers buffer =
-      admissionReasons ++ (only 9 (rowsWrong (length buffer) ≡ true) 0 ∷ documentReasons (C .transformation .symbols) numbers)
+      admissionReasons ++ (only 9 (rowsWrong (length buffer) ≡ true) 0 ∷ leadingReasons (C .transformation .symbols) numbers)
 
 -- "16, the length is no multiple of three or above 12,288 (place 0). 17, the first row with .. (that row). 18, the row number is too
 -- large (that number). 19, the tree has more numbers than the buffer (place the buffer's length)."

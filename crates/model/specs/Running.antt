@@ -1,4 +1,4 @@
--- Running a transformation on a document: the order of work, the answer and the closing row buffer.
+-- Running a transformation on the document that what is handed in begins with: the order of work, the answer and the closing row buffer.
 use mathlib.Core.Bool.{Bool, not, _&&_, _||_}
 use mathlib.Core.List.{List, [], _∷_, _++_}
 use Prim.Native.Nat.{ℕ, suc, _+_, _%_}
@@ -15,7 +15,7 @@ use Rattle.model.specs.Outputs.{rightSide}
 use Rattle.model.specs.Facts.{onSide}
 use Rattle.model.specs.Answers.{Verdict, refuseIf, _then_, Answer, ran, refusal, given}
 use Rattle.model.specs.Admission.{admission}
-use Rattle.model.specs.Documents.{document, documentTree}
+use Rattle.model.specs.Documents.{numbersTaken, leadingTree, leadingVerdict}
 
 -- "15, a call past 65,536"
 abbrev pub mostCalls : ℕ
@@ -103,10 +103,10 @@ pub record Ran : Type 0 where
   pub answer : Answer
   pub rows : List ℕ
 
--- "the buffer is then all 0. Otherwise root row and rows used come back, unused rows 0."
-unfoldable pub closing : ℕ → Step ℕ → Ran
-closing n (made root w) = record { answer = ran root (w .tally .used); rows = zeroFilled n (w .rows) }
-closing n (refused number place) = record { answer = refusal number place; rows = replicate n 0 }
+-- "the buffer is then all 0. Otherwise root row and rows used come back, unused rows 0.", with how many numbers the leading tree took
+unfoldable pub closing : (length taken : ℕ) → Step ℕ → Ran
+closing n taken (made root w) = record { answer = ran root (w .tally .used) taken; rows = zeroFilled n (w .rows) }
+closing n taken (refused number place) = record { answer = refusal number place; rows = replicate n 0 }
 
 -- "no multiple of three or above 12,288"
 abbrev pub rowsWrong : ℕ → Bool
@@ -116,10 +116,11 @@ module _ (C : Contract) where
   -- "1 to 8; 9, the row buffer's length is no multiple of three or above 12,288 (place 0); 11; 12"
   unfoldable pub runningVerdict : (numbers buffer : List ℕ) → Verdict
   runningVerdict numbers buffer =
-      admission C then refuseIf (rowsWrong (length buffer)) 9 0 then document (C .transformation .symbols) numbers
+      admission C then refuseIf (rowsWrong (length buffer)) 9 0 then leadingVerdict (C .transformation .symbols) numbers
 
   -- "these write nothing"
   unfoldable pub running : (numbers buffer : List ℕ) → Ran
   running numbers buffer =
+      let S : ℕ = C .transformation .symbols in
       given (runningVerdict numbers buffer) (λ number place. record { answer = refusal number place; rows = buffer })
-      (closing (length buffer) (run (C .transformation) (rowCount buffer) (documentTree numbers)))
+      (closing (length buffer) (numbersTaken S numbers) (run (C .transformation) (rowCount buffer) (leadingTree S numbers)))

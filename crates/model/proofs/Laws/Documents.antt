@@ -1,22 +1,23 @@
 -- Reading documents: a tree is read back from its numbers; what a stretch of numbers with no fault begins with is a tree of
--- exactly these numbers; where the children of each place of a document stand; how many numbers a tree has, and how tall it is.
-use mathlib.Core.Path.{_≡_, refl, ap, sym, _∙_}
+-- exactly these numbers; where the children of each place of a document stand; how many numbers a tree has, and how tall it is; the
+-- document that what is handed in begins with.
+use mathlib.Core.Path.{_≡_, refl, ap, sym, subst, _∙_}
 use mathlib.Core.List.{List, [], _∷_, _++_, append-assoc}
 use mathlib.Core.Bool.{Bool, true, false}
 use Prim.Native.Nat.{ℕ, zero, suc, _+_, _*_, _-_, _≤_, _<_}
 use native.Mathlib.Nat.{not-suc-le-zero}
 use native.Mathlib.Numerals.{add-one}
 use native.Mathlib.Omega.{arith}
-use borrow.Author.Tests.{ltb-false, leb-true, leb-false, ne-eqb, lt-leb, le-leb, le-ltb}
+use borrow.Author.Tests.{leb-true, leb-false, ne-eqb, lt-leb, le-leb}
 use lib.Dec.{leb, eqb}
-use lib.ListN.{length, getD, take, drop, length-append, length-drop}
-use lib.Seq.{drop-cons, take-length, take-append-seam, drop-append-seam, drop-append-le, drop-drop}
+use lib.ListN.{length, getD, take, drop, length-append, length-take, length-drop}
+use lib.Seq.{drop-cons, take-length, take-take, take-append-seam, take-append-add, drop-append-seam, drop-append-le, drop-drop}
 use Rattle.foundation.specs.Tests.{choose}
 use Rattle.foundation.specs.Lists.{append-nil}
 use Rattle.model.specs.Trees.{Tree, empty, node, height, Over, preorder}
 use Rattle.model.specs.Answers.{fine, refuseIf, _then_}
-use Rattle.model.specs.Documents.{mostNumbers, joined, forest, firstTree, Leading, ends, faulty, leadingFrom, leading, treeOf, documentTree, wholeTree, document}
-use Rattle.model.proofs.Laws.Answers.{refused-not-fine, refuse-if-fine, then-fine}
+use Rattle.model.specs.Documents.{mostNumbers, joined, forest, All, preorders, firstTree, Leading, ends, faulty, leadingFrom, leading, treeOf, documentTree, reading, takenBy, numbersTaken, leadingTree, endless, faultOf, leadingVerdict}
+use Rattle.model.proofs.Laws.Answers.{refused-not-fine, then-fine}
 
 -- Sizes
 
@@ -49,11 +50,6 @@ some-number t = omega (arith, numbers-odd t)
 
 -- Trees one behind another
 
--- each tree has the property
-abbrev pub All : (Tree → Type 0) → List Tree → Type 0
-All P [] = Unit {0}
-All P (t ∷ ts) = P t × All P ts
-
 -- no symbol 0 has children
 abbrev pub Proper : Tree → Type 0
 Proper empty = Unit {0}
@@ -62,11 +58,6 @@ Proper (node s l r) = (1 ≤ s) × Proper l × Proper r
 pub over-proper : (S : ℕ) (t : Tree) → Over S t → Proper t
 over-proper S empty o = tt
 over-proper S (node s l r) o = (o .0, over-proper S l (o .2), over-proper S r (o .3))
-
--- the numbers of trees, one behind another
-unfoldable pub preorders : List Tree → List ℕ
-preorders [] = []
-preorders (t ∷ ts) = preorder t ++ preorders ts
 
 -- a tree is read back from its numbers, whatever follows them
 pub forest-preorder : (t : Tree) (rest : List ℕ) → Proper t → forest (preorder t ++ rest) ≡ t ∷ forest rest
@@ -419,22 +410,74 @@ whole-document S xs h e =
       numbers = t .numbers ∙ take-length xs;
     }
 
--- a document whose leading tree ends has no number after it
-pub whole-fine : (S : ℕ) (xs : List ℕ) (l : Leading) → leading S xs ≡ l → wholeTree (length xs) l ≡ fine → leading S xs ≡ ends (length xs)
-unfolding wholeTree
-whole-fine S xs (faulty at) e f = absurd (refused-not-fine 12 _ f)
-whole-fine S xs (ends at) e f =
-    let n : at ≡ length xs = omega (arith, ltb-false at (length xs) (refuse-if-fine _ _ _ f), leading-ends S at xs e .within) in
-    e ∙ ap ends n
+-- Reading the leading tree of what is handed in
 
-pub document-fine : (S : ℕ) (xs : List ℕ) → document S xs ≡ fine → Document S xs
-unfolding document
-document-fine S xs f =
-    let both = then-fine _ _ f in
-    whole-document S xs (ltb-false mostNumbers (length xs) (refuse-if-fine _ _ _ (both .0))) (whole-fine S xs (leading S xs) refl (both .1))
+leading-some : (S n : ℕ) (xs : List ℕ) → leading S xs ≡ ends n → 1 ≤ S
+leading-some S n xs e =
+    let t = leading-ends S n xs e in
+    omega (arith, leading-reads S n xs e .1 .below 0 (omega (arith, ap length (t .numbers), some-number (treeOf n xs))))
 
--- and the numbers of a tree that is small enough are such a document
-pub document-preorder : (S : ℕ) (t : Tree) → 1 ≤ S → Over S t → length (preorder t) ≤ mostNumbers → document S (preorder t) ≡ fine
-unfolding document _then_ refuseIf wholeTree
-document-preorder S t h o few =
-    rw (le-ltb mostNumbers (length (preorder t)) few, leading-whole S t h o, le-ltb (length (preorder t)) (length (preorder t)) (omega arith))
+-- the numbers that a leading tree takes are a document
+leading-document : (S n : ℕ) (xs : List ℕ) → n ≤ mostNumbers → leading S xs ≡ ends n → Document S (take n xs)
+leading-document S n xs few e =
+    let t = leading-ends S n xs e in
+    whole-document S (take n xs) (omega (arith, length-take n xs))
+    (subst (λ (ys : List ℕ). leading S ys ≡ ends (length ys)) (t .numbers) (leading-whole S (treeOf n xs) (leading-some S n xs e) (t .over)))
+
+-- the first n of the numbers handed in are a document
+pub record Leads (S n : ℕ) (xs : List ℕ) : Type 0 where
+  pub within : n ≤ length xs
+  pub document : Document S (take n xs)
+
+pub reading-leads : (S n : ℕ) (xs : List ℕ) → reading S xs ≡ ends n → Leads S n xs
+unfolding reading
+reading-leads S n xs e =
+    let within : n ≤ length (take mostNumbers xs) = leading-ends S n (take mostNumbers xs) e .within in
+    let few : n ≤ mostNumbers = omega (arith, length-take mostNumbers xs) in
+    record {
+      within = omega (arith, length-take mostNumbers xs);
+      document = rw (take-take n mostNumbers xs few) at (leading-document S n (take mostNumbers xs) few e);
+    }
+
+pub ends-taken : (S n : ℕ) (xs : List ℕ) → reading S xs ≡ ends n → numbersTaken S xs ≡ n
+unfolding numbersTaken
+ends-taken S n xs e = ap takenBy e
+
+pub faulty-taken : (S at : ℕ) (xs : List ℕ) → reading S xs ≡ faulty at → numbersTaken S xs ≡ 0
+unfolding numbersTaken
+faulty-taken S at xs e = ap takenBy e
+
+-- where nothing is refused, the leading tree ends
+pub fine-ends : (S : ℕ) (xs : List ℕ) → leadingVerdict S xs ≡ fine → reading S xs ≡ ends (numbersTaken S xs)
+unfolding leadingVerdict faultOf
+fine-ends S xs e = go (reading S xs) refl (then-fine _ _ e .1)
+  where
+    go : (l : Leading) → reading S xs ≡ l → faultOf l ≡ fine → reading S xs ≡ ends (numbersTaken S xs)
+    go (ends n) r f = r ∙ ap ends (sym (ends-taken S n xs r))
+    go (faulty at) r f = absurd (refused-not-fine 12 at f)
+
+pub ends-fine : (S n : ℕ) (xs : List ℕ) → reading S xs ≡ ends n → leadingVerdict S xs ≡ fine
+unfolding leadingVerdict endless faultOf _then_ refuseIf
+ends-fine S n xs e = rw e
+
+pub leading-fine : (S : ℕ) (xs : List ℕ) → leadingVerdict S xs ≡ fine → Leads S (numbersTaken S xs) xs
+leading-fine S xs e = reading-leads S (numbersTaken S xs) xs (fine-ends S xs e)
+
+-- a document is read, whatever stands behind it
+pub reading-followed : (S : ℕ) (t : Tree) (rest : List ℕ) → 1 ≤ S → Over S t → length (preorder t) ≤ mostNumbers
+    → reading S (preorder t ++ rest) ≡ ends (length (preorder t))
+unfolding reading
+reading-followed S t rest some over few =
+    let room : ℕ = mostNumbers - length (preorder t) in
+    let all : length (preorder t) + room ≡ mostNumbers = omega arith in
+    let front : take mostNumbers (preorder t ++ rest) ≡ preorder t ++ take room rest =
+    ap (λ (n : ℕ). take n (preorder t ++ rest)) (sym all) ∙ take-append-add (preorder t) rest room in
+    ap (leading S) front ∙ leading-tree S t (take room rest) some over
+
+pub leading-tree-followed : (S : ℕ) (t : Tree) (rest : List ℕ) → 1 ≤ S → Over S t → length (preorder t) ≤ mostNumbers
+    → leadingTree S (preorder t ++ rest) ≡ t
+unfolding leadingTree
+leading-tree-followed S t rest some over few =
+    ap (λ (n : ℕ). documentTree (take n (preorder t ++ rest))) (ends-taken S _ _ (reading-followed S t rest some over few))
+    ∙ ap documentTree (take-append-seam (preorder t) rest)
+    ∙ read-back t (over-proper S t over)

@@ -1,22 +1,23 @@
--- The place of refusal 12: "the first number not below S or after the tree has ended, or the length if the tree has not ended".
+-- Refusals 11 and 12: where the leading tree ends, where a fault is, and where neither is among "the first 1,023 numbers".
 use mathlib.Core.Path.{_≡_, refl, ap, sym, subst, _∙_}
-use mathlib.Core.Bool.{Bool, true, false}
-use mathlib.Core.List.{List, [], _∷_, _++_}
+use mathlib.Core.Bool.{Bool, true, false, true≢false}
+use mathlib.Core.List.{List, [], _∷_, _++_, append-assoc}
 use mathlib.Core.Logic.{_↔_, inl, inr}
-use Prim.Native.Nat.{ℕ, zero, suc, _+_, _≤_, _<_}
+use Prim.Native.Nat.{ℕ, zero, suc, _+_, _-_, _≤_, _<_}
 use native.Mathlib.Nat.{not-suc-le-zero}
 use native.Mathlib.Omega.{arith}
 use native.Mathlib.Decide.{decLt}
-use borrow.Author.Tests.{leb-true, leb-false, ltb-true}
-use lib.Dec.{leb}
-use lib.ListN.{length, getD, drop, length-take, take-append-drop}
-use lib.Seq.{getD-take}
-use Rattle.model.specs.Trees.{preorder}
-use Rattle.model.specs.Documents.{Leading, ends, faulty, leadingFrom, leading, treeOf, wholeTree}
-use Rattle.model.specs.Answers.{Verdict, fine, refused}
-use Rattle.model.specs.Refusals.{EndedBefore, no-symbol, after-tree, AllPlaced, Fault, at-number, at-end}
-use Rattle.model.proofs.Laws.Answers.{refuse-if-told, Only, refuse-if-only}
-use Rattle.model.proofs.Laws.Documents.{faulty-not-ends, dueAfter, leading-done, leading-short, leading-fault, leading-step, leading-tree, leading-ends, leading-reads, whole-fine}
+use borrow.Author.Tests.{leb-true, leb-false, ltb-true, lt-ltb, eqb-true}
+use lib.Dec.{leb, eqb, ltb}
+use lib.ListN.{length, getD, take, drop, length-take, take-append-drop}
+use lib.Seq.{getD-take, take-append-add}
+use Rattle.model.specs.Trees.{Tree, preorder}
+use Rattle.model.specs.Documents.{mostNumbers, Leading, ends, faulty, leadingFrom, leading, treeOf, reading, endless, faultOf}
+use Rattle.model.specs.Answers.{refused}
+use Rattle.model.specs.Refusals.{BeginsWith, EndsWithin, GoesOn, Fault, not-below, cut-short}
+use Rattle.model.proofs.Laws.Answers.{refused-not-fine, Only}
+use Rattle.model.proofs.Laws.Rules.{both-true}
+use Rattle.model.proofs.Laws.Documents.{faulty-not-ends, dueAfter, leading-done, leading-short, leading-fault, leading-step, leading-tree, leading-ends, leading-reads}
 
 -- Where reading comes to a fault
 
@@ -63,106 +64,204 @@ module _ (S : ℕ) where
           let h : x < S = leb-false S x t in
           fault-later at n x xs h (rest (sym (leading-step S at (suc due) (omega arith) x xs h) ∙ e))
 
--- The place as document 01 says it
+-- How numbers begin, as a statement
 
-module _ (S : ℕ) (xs : List ℕ) (some : 1 ≤ S) where
-  -- a tree that has ended is the leading one
-  ended-leads : (k : ℕ) → EndedBefore S xs k → (n : ℕ) × (leading S xs ≡ ends n) × (n ≤ k)
-  ended-leads k ended =
-      (length (preorder (ended .tree)), ap (leading S) (ended .begins) ∙ leading-tree S (ended .tree) (ended .rest) some (ended .over), ended .before)
+module _ (S : ℕ) (some : 1 ≤ S) where
+  -- a tree with whose numbers they begin is the leading one
+  pub begins-leads : (xs : List ℕ) (t : Tree) (n : ℕ) → BeginsWith S xs t n → leading S xs ≡ ends n
+  begins-leads xs t n b =
+      ap (leading S) (b .inPreorder) ∙ leading-tree S t (b .rest) some (b .over) ∙ ap ends (sym (b .took))
 
-  leads-ended : (n : ℕ) → leading S xs ≡ ends n → EndedBefore S xs n
-  leads-ended n e =
+  pub leads-begins : (xs : List ℕ) (n : ℕ) → leading S xs ≡ ends n → BeginsWith S xs (treeOf n xs) n
+  leads-begins xs n e =
       let l = leading-ends S n xs e in
       record {
-        tree = treeOf n xs;
         over = l .over;
         rest = drop n xs;
-        begins = sym (take-append-drop n xs) ∙ ap (λ (ys : List ℕ). ys ++ drop n xs) (sym (l .numbers));
-        before = omega (arith, ap length (l .numbers), length-take n xs);
+        inPreorder = sym (take-append-drop n xs) ∙ ap (λ (ys : List ℕ). ys ++ drop n xs) (sym (l .numbers));
+        took = omega (arith, ap length (l .numbers), length-take n xs, l .within);
       }
 
-  -- where no number is a fault, up to the end of the leading tree
-  leads-placed : (n : ℕ) → leading S xs ≡ ends n → AllPlaced S xs n
-  leads-placed n e j l (no-symbol h) =
-      let (within, reads) = leading-reads S n xs e in
-      omega (arith, getD-take n xs j 0 l, reads .below j (omega (arith, length-take n xs)))
-  leads-placed n e j l (after-tree ended) =
-      let (m, f, h) = ended-leads j ended in
-      let same : n ≡ m = (let x : ends n ≡ ends m = sym e ∙ f in cc) in
-      omega arith
+  fault-unended : (xs : List ℕ) (n : ℕ) → leading S xs ≡ faulty n → (k : ℕ) → EndsWithin S xs k → ⊥
+  fault-unended xs n e k ended = faulty-not-ends n (ended .taken) (sym e ∙ begins-leads xs (ended .tree) (ended .taken) (ended .begins))
 
-  fault-no-end : (n : ℕ) → leading S xs ≡ faulty n → (k : ℕ) → EndedBefore S xs k → ⊥
-  fault-no-end n e k ended = let (m, f, h) = ended-leads k ended in faulty-not-ends n m (sym e ∙ f)
-
-  faulty-fault : (n : ℕ) → leading S xs ≡ faulty n → Fault S xs n
+  faulty-fault : (xs : List ℕ) (n : ℕ) → leading S xs ≡ faulty n → Fault S xs n
   unfolding leading
-  faulty-fault n e = go (decLt n (length xs))
+  faulty-fault xs n e = go (decLt n (length xs))
     where
       after : FaultAfter S 0 n xs
       after = fault-after S xs 1 0 n e
 
-      placed : AllPlaced S xs n
-      placed j l (no-symbol h) = omega (arith, after .before j (omega (arith, after .place)))
-      placed j l (after-tree ended) = fault-no-end n e j ended
+      before : GoesOn S xs n
+      before = record { symbols = λ j l. after .before j (omega (arith, after .place)); notEnded = fault-unended xs n e n }
 
       go : Dec (n < length xs) → Fault S xs n
       go (yes l) =
           let same : after .read ≡ n = omega (arith, after .place) in
-          at-number l (no-symbol (subst (λ (k : ℕ). S ≤ getD xs k 0) same (after .fault (omega arith)))) placed
+          not-below before l (subst (λ (k : ℕ). S ≤ getD xs k 0) same (after .fault (omega arith)))
+      go (no l) = cut-short before (omega (arith, after .place, after .within))
+
+  -- before a fault they go on, and at it stands no symbol
+  fault-goes-on : (xs : List ℕ) (n : ℕ) → Fault S xs n → GoesOn S xs n
+  fault-goes-on xs n (not-below g l h) = g
+  fault-goes-on xs n (cut-short g e) = g
+
+  fault-no-symbol : (xs : List ℕ) (n : ℕ) → Fault S xs n → (n ≤ length xs) × (n < length xs → S ≤ getD xs n 0)
+  fault-no-symbol xs n (not-below g l h) = (omega arith, λ m. h)
+  fault-no-symbol xs n (cut-short g e) = (omega arith, λ m. absurd (omega arith))
+
+  -- so there is one such place, and none where a tree leads
+  fault-least : (xs : List ℕ) (m n : ℕ) → Fault S xs m → Fault S xs n → m < n → ⊥
+  fault-least xs m n at later l =
+      omega (
+        arith,
+        fault-goes-on xs n later .symbols m l,
+        fault-no-symbol xs m at .1 (omega (arith, fault-no-symbol xs n later .0)),
+      )
+
+  fault-no-tree : (xs : List ℕ) (m n : ℕ) → leading S xs ≡ ends m → Fault S xs n → ⊥
+  fault-no-tree xs m n e fault = go (decLt n m)
+    where
+      go : Dec (n < m) → ⊥
       go (no l) =
-          let same : n ≡ length xs = omega (arith, after .place, after .within) in
-          at-end same (subst (AllPlaced S xs) same placed) (fault-no-end n e (length xs))
+          fault-goes-on xs n fault .notEnded (record { tree = treeOf m xs; taken = m; begins = leads-begins xs m e; within = omega arith })
+      go (yes l) =
+          let (within, reads) = leading-reads S m xs e in
+          let symbol : getD xs n 0 < S = rw (getD-take m xs n 0 l) at (reads .below n (omega (arith, length-take m xs))) in
+          omega (arith, fault-no-symbol xs n fault .1 (omega arith))
 
-  abbrev whole : Verdict
-  whole = wholeTree (length xs) (leading S xs)
-
-  -- a document that is refused has a fault there
-  refused-fault : (place : ℕ) → whole ≡ refused 12 place → Fault S xs place
-  unfolding wholeTree
-  refused-fault place e = go (leading S xs) refl e
+  fault-faulty : (xs : List ℕ) (n : ℕ) → Fault S xs n → leading S xs ≡ faulty n
+  fault-faulty xs n fault = go (leading S xs) refl
     where
-      go : (l : Leading) → leading S xs ≡ l → wholeTree (length xs) l ≡ refused 12 place → Fault S xs place
-      go (faulty n) f e = let same : n ≡ place = cc in subst (Fault S xs) same (faulty-fault n f)
-      go (ends n) f e =
-          let (test, told) = refuse-if-told _ 12 _ 12 place e in
-          let same : n ≡ place = omega (arith, told) in
-          subst (Fault S xs) same (at-number (ltb-true n (length xs) test) (after-tree (leads-ended n f)) (leads-placed n f))
+      go : (l : Leading) → leading S xs ≡ l → leading S xs ≡ faulty n
+      go (ends m) e = absurd (fault-no-tree xs m n e fault)
+      go (faulty m) e = one (decLt m n) (decLt n m)
+        where
+          one : Dec (m < n) → Dec (n < m) → leading S xs ≡ faulty n
+          one (yes h) k = absurd (fault-least xs m n (faulty-fault xs m e) fault h)
+          one (no h) (yes k) = absurd (fault-least xs n m fault (faulty-fault xs m e) k)
+          one (no h) (no k) = e ∙ ap faulty (omega arith)
 
-  -- there is one such place
-  fault-unique : (m n : ℕ) → Fault S xs m → Fault S xs n → m ≡ n
-  fault-unique m n (at-number l bad placed) (at-number l′ bad′ placed′) = go (decLt m n) (decLt n m)
+-- The first m numbers, and all of them
+
+module _ (S : ℕ) (xs : List ℕ) (m : ℕ) where
+  begins-further : (t : Tree) (n : ℕ) → BeginsWith S (take m xs) t n → BeginsWith S xs t n
+  begins-further t n b =
+      record {
+        over = b .over;
+        rest = b .rest ++ drop m xs;
+        inPreorder = sym (take-append-drop m xs) ∙ ap (λ (ys : List ℕ). ys ++ drop m xs) (b .inPreorder) ∙ append-assoc (preorder t) (b .rest) (drop m xs);
+        took = b .took;
+      }
+
+  pub begins-already : (t : Tree) (n : ℕ) → n ≤ m → BeginsWith S xs t n → BeginsWith S (take m xs) t n
+  begins-already t n h b =
+      let room : ℕ = m - length (preorder t) in
+      let all : length (preorder t) + room ≡ m = omega (arith, b .took) in
+      record {
+        over = b .over;
+        rest = take room (b .rest);
+        inPreorder = ap (take m) (b .inPreorder) ∙ ap (λ (k : ℕ). take k (preorder t ++ b .rest)) (sym all) ∙ take-append-add (preorder t) (b .rest) room;
+        took = b .took;
+      }
+
+  goes-on-further : (n : ℕ) → n ≤ m → GoesOn S (take m xs) n → GoesOn S xs n
+  goes-on-further n h g =
+      record {
+        symbols = λ j l. rw (getD-take m xs j 0 (omega arith)) at (g .symbols j l);
+        notEnded = λ e.
+            g .notEnded (record { tree = e .tree; taken = e .taken; begins = begins-already (e .tree) (e .taken) (omega (arith, e .within)) (e .begins); within = e .within });
+      }
+
+  goes-on-already : (n : ℕ) → n ≤ m → GoesOn S xs n → GoesOn S (take m xs) n
+  goes-on-already n h g =
+      record {
+        symbols = λ j l. rw (getD-take m xs j 0 (omega arith)) (g .symbols j l);
+        notEnded = λ e. g .notEnded (record { tree = e .tree; taken = e .taken; begins = begins-further (e .tree) (e .taken) (e .begins); within = e .within });
+      }
+
+goes-on-less : (S : ℕ) (xs : List ℕ) (m n : ℕ) → m ≤ n → GoesOn S xs n → GoesOn S xs m
+goes-on-less S xs m n h g =
+    record {
+      symbols = λ j l. g .symbols j (omega arith);
+      notEnded = λ e. g .notEnded (record { tree = e .tree; taken = e .taken; begins = e .begins; within = omega (arith, e .within) });
+    }
+
+-- What is refused
+
+module _ (S : ℕ) (xs : List ℕ) (some : 1 ≤ S) where
+  -- "the first 1,023 numbers hold neither a fault nor the end of the tree and more follow"
+  abbrev Endless : Type 0
+  Endless = GoesOn S xs mostNumbers × (mostNumbers < length xs)
+
+  pub endless-means : (endless (length xs) (reading S xs) ≡ true) ↔ Endless
+  unfolding reading endless
+  endless-means = (to (leading S (take mostNumbers xs)) refl, from)
     where
-      go : Dec (m < n) → Dec (n < m) → m ≡ n
-      go (yes h) k = absurd (placed′ m h bad)
-      go (no h) (yes k) = absurd (placed n k bad′)
-      go (no h) (no k) = omega arith
-  fault-unique m n (at-number l bad placed) (at-end e placed′ unended) = absurd (placed′ m l bad)
-  fault-unique m n (at-end e placed unended) (at-number l′ bad′ placed′) = absurd (placed n l′ bad′)
-  fault-unique m n (at-end e placed unended) (at-end e′ placed′ unended′) = omega arith
+      to : (l : Leading) → leading S (take mostNumbers xs) ≡ l → endless (length xs) l ≡ true → Endless
+      to (ends n) r e = absurd (true≢false (sym e))
+      to (faulty n) r e =
+          let (whole, follows) = both-true (eqb n mostNumbers) (ltb n (length xs)) e in
+          let all : n ≡ mostNumbers = eqb-true n mostNumbers whole in
+          let more : n < length xs = ltb-true n (length xs) follows in
+          (
+            goes-on-further S xs mostNumbers mostNumbers (omega arith)
+                (subst (GoesOn S (take mostNumbers xs)) all (fault-goes-on S some (take mostNumbers xs) n (faulty-fault S some (take mostNumbers xs) n r))),
+            omega arith,
+          )
 
-  -- and none where the whole is one tree
-  whole-no-fault : whole ≡ fine → (n : ℕ) → Fault S xs n → ⊥
-  whole-no-fault e n fault = go fault
+      from : Endless → endless (length xs) (leading S (take mostNumbers xs)) ≡ true
+      from (g, more) =
+          let all : mostNumbers ≡ length (take mostNumbers xs) = omega (arith, length-take mostNumbers xs) in
+          let read = fault-faulty S some (take mostNumbers xs) mostNumbers (cut-short (goes-on-already S xs mostNumbers mostNumbers (omega arith) g) all) in
+          rw (read, lt-ltb mostNumbers (length xs) more)
+
+  -- a fault of the first 1,023 numbers is one of all, and conversely, unless they go on behind these
+  fault-means : (Endless → ⊥) → (n : ℕ) → Fault S (take mostNumbers xs) n ↔ Fault S xs n
+  fault-means stops n = (to, from (decLt n mostNumbers))
     where
-      all : leading S xs ≡ ends (length xs)
-      all = whole-fine S xs (leading S xs) refl e
+      few : n ≤ mostNumbers → GoesOn S (take mostNumbers xs) n → GoesOn S xs n
+      few h = goes-on-further S xs mostNumbers n h
 
-      go : Fault S xs n → ⊥
-      go (at-number l bad placed) = leads-placed (length xs) all n l bad
-      go (at-end e placed unended) = unended (leads-ended (length xs) all)
+      to : Fault S (take mostNumbers xs) n → Fault S xs n
+      to (not-below g l h) =
+          let inside : n < mostNumbers = omega (arith, length-take mostNumbers xs) in
+          not-below (few (omega arith) g) (omega (arith, length-take mostNumbers xs)) (rw (getD-take mostNumbers xs n 0 inside) at h)
+      to (cut-short g e) = go (decLt n (length xs))
+        where
+          go : Dec (n < length xs) → Fault S xs n
+          go (no l) = cut-short (few (omega (arith, length-take mostNumbers xs)) g) (omega (arith, length-take mostNumbers xs))
+          go (yes l) =
+              let all : n ≡ mostNumbers = omega (arith, length-take mostNumbers xs) in
+              absurd (stops (subst (GoesOn S xs) all (few (omega arith) g), omega arith))
 
-  pub whole-only : Only 12 whole
-  unfolding wholeTree
-  whole-only = go (leading S xs)
+      from : Dec (n < mostNumbers) → Fault S xs n → Fault S (take mostNumbers xs) n
+      from (yes h) (not-below g l b) =
+          not-below (goes-on-already S xs mostNumbers n (omega arith) g) (omega (arith, length-take mostNumbers xs)) (rw (getD-take mostNumbers xs n 0 h) b)
+      from (yes h) (cut-short g e) = cut-short (goes-on-already S xs mostNumbers n (omega arith) g) (omega (arith, length-take mostNumbers xs))
+      from (no h) (not-below g l b) = absurd (stops (goes-on-less S xs mostNumbers n (omega arith) g, omega arith))
+      from (no h) (cut-short g e) = go (decLt mostNumbers (length xs))
+        where
+          go : Dec (mostNumbers < length xs) → Fault S (take mostNumbers xs) n
+          go (yes l) = absurd (stops (goes-on-less S xs mostNumbers n (omega arith) g, l))
+          go (no l) = cut-short (goes-on-already S xs mostNumbers n (omega arith) g) (omega (arith, length-take mostNumbers xs))
+
+  pub fault-only : Only 12 (faultOf (reading S xs))
+  unfolding faultOf
+  fault-only = go (reading S xs)
     where
-      go : (l : Leading) → Only 12 (wholeTree (length xs) l)
+      go : (l : Leading) → Only 12 (faultOf l)
+      go (ends n) = inl refl
       go (faulty n) = inr (_, refl)
-      go (ends n) = refuse-if-only _ 12 _
 
-  pub fault-exactly : (place : ℕ) → (whole ≡ refused 12 place) ↔ Fault S xs place
-  fault-exactly place = (refused-fault place, λ fault. go fault whole-only)
+  pub fault-exactly : (Endless → ⊥) → (place : ℕ) → (faultOf (reading S xs) ≡ refused 12 place) ↔ Fault S xs place
+  unfolding reading faultOf
+  fault-exactly stops place =
+      (
+        λ e. fault-means stops place .0 (told (leading S (take mostNumbers xs)) refl e),
+        λ f. ap faultOf (fault-faulty S some (take mostNumbers xs) place (fault-means stops place .1 f)),
+      )
     where
-      go : Fault S xs place → Only 12 whole → whole ≡ refused 12 place
-      go fault (inl e) = absurd (whole-no-fault e place fault)
-      go fault (inr (n, e)) = e ∙ ap (refused 12) (fault-unique n place (refused-fault n e) fault)
+      told : (l : Leading) → leading S (take mostNumbers xs) ≡ l → faultOf l ≡ refused 12 place → Fault S (take mostNumbers xs) place
+      told (ends n) r e = absurd (refused-not-fine 12 place (sym e))
+      told (faulty n) r e = let same : n ≡ place = cc in subst (Fault S (take mostNumbers xs)) same (faulty-fault S some (take mostNumbers xs) n r)

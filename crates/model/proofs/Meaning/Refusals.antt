@@ -66,7 +66,7 @@ tree-no-refusal e = let z : _≡_ {A = ℕ} 0 1 = cc in omega arith
 pass-no-refusal : {n number place : ℕ} → pass n ≡ refusal number place → ⊥
 pass-no-refusal e = let z : _≡_ {A = ℕ} 0 1 = cc in omega arith
 
-judged-no-refusal : {result number place : ℕ} → judged result ≡ refusal number place → ⊥
+judged-no-refusal : {result taken number place : ℕ} → judged result taken ≡ refusal number place → ⊥
 judged-no-refusal e = let z : _≡_ {A = ℕ} 0 1 = cc in omega arith
 
 written-no-refusal : {n number place : ℕ} → written n ≡ refusal number place → ⊥

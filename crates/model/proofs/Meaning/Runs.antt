@@ -16,23 +16,25 @@ use borrow.Author.Tests.{ltb-true}
 use Rattle.foundation.specs.Tests.{choose}
 use Rattle.foundation.specs.Search.{first}
 use Rattle.foundation.specs.Lists.{zeroFilled}
-use Rattle.model.specs.Trees.{Tree, empty, node, rootSymbol}
+use Rattle.model.specs.Trees.{Tree, empty, node, rootSymbol, preorder}
 use Rattle.model.specs.Tables.{Contract, Transformation, nodeAt, nodeCount, ruleAt, ruleCount, countOf}
 use Rattle.model.specs.Expressions.{Child, left, right, Expression, parameter, nothing, symbol, call, Arguments, none, argument, argumentsOf, expression, greatestParameter, greatestOfAll}
 use Rattle.model.specs.Outputs.{ChildOf, left-of, right-of, rightSide, Gives, by-rule, Makes, of-parameter, of-nothing, of-symbol, of-call, MakesAll, of-none, of-argument, trees, Output}
 use Rattle.model.specs.Answers as answers
-use Rattle.model.specs.Answers.{Verdict, fine, ran, refusal, given}
-use Rattle.model.specs.Documents.{documentTree}
+use Rattle.model.specs.Answers.{Verdict, fine, refuseIf, _then_, ran, refusal, given}
+use Rattle.model.specs.Documents.{numbersTaken, leadingTree}
 use Rattle.model.specs.Admission.{admission}
 use Rattle.model.specs.Rows.{Row, rowAt, rowCount, treeAt}
 use Rattle.model.specs.Facts.{onSide}
-use Rattle.model.specs.Running.{Work, Step, made, refused, _after_, mostCalls, addRow, countCall, seekRule, Runs, noRuns, evaluate, evaluateAll, runAt, runOn, run, Ran, closing, runningVerdict, running}
-use Rattle.model.specs.Refusals.{DocumentOf}
-use Rattle.model.specs.Meaning.{RunRefusal, no-rule, no-row, too-many-calls, RanOutput, RunRefused}
+use Rattle.model.specs.Running.{Work, Step, made, refused, _after_, mostCalls, addRow, countCall, seekRule, Runs, noRuns, evaluate, evaluateAll, runAt, runOn, run, Ran, closing, rowsWrong, runningVerdict, running}
+use Rattle.model.specs.Refusals.{LeadingDocument}
+use Rattle.model.specs.Meaning.{RunRefusal, no-rule, no-row, too-many-calls, RanOutput, RunRefused, IsDocument}
+use Rattle.model.specs.Claims.{Admitted}
 use Rattle.model.proofs.Laws.Rules.{firstRule, first-fits}
 use Rattle.model.proofs.Laws.Rows.{tree-empty, tree-node, tree-append}
-use Rattle.model.proofs.Laws.Answers.{then-fine}
+use Rattle.model.proofs.Laws.Answers.{then-fine, given-fine, given-refused}
 use Rattle.model.proofs.Laws.Admitted.{established}
+use Rattle.model.proofs.Laws.Documents.{ends-taken, ends-fine, reading-followed, leading-tree-followed}
 use Rattle.model.proofs.Laws.Expressions.{expression-parameter, expression-nothing, expression-symbol, expression-call}
 use Rattle.model.proofs.Laws.Established.{GoodNode, good-parameter, good-nothing, good-symbol, good-call, Established}
 use Rattle.model.proofs.Meaning.Verdicts.{fine-document}
@@ -388,69 +390,96 @@ module _ (C : Contract) (E : Established C) (free : ℕ) (t : Tree) where
 
 -- The whole operation
 
-module _ (C : Contract) (numbers buffer : List ℕ) (root used : ℕ) where
-  closing-output : Established C → (s : Step ℕ) → run (C .transformation) (rowCount buffer) (documentTree numbers) ≡ s
-      → running C numbers buffer ≡ closing (length buffer) s
-      → closing (length buffer) s .answer ≡ ran root used
-      → RanOutput C numbers buffer root used
-  unfolding closing zeroFilled
-  closing-output E (refused number place) e ends answer = absurd (let z : _≡_ {A = ℕ} 0 1 = cc in omega arith)
-  closing-output E (made top w) e ends answer =
-      let er : top ≡ root = cc in
-      let eu : w .tally .used ≡ used = cc in
-      let o = run-output C E (rowCount buffer) (documentTree numbers) top w e in
-      let rows : running C numbers buffer .rows ≡ w .rows ++ replicate (length buffer - length (w .rows)) 0 = ap (λ (r : Ran). r .rows) ends in
-      record {
-        output = rw (rows, ← er, tree-append (w .rows) (replicate (length buffer - length (w .rows)) 0) top (omega (arith, o .inside, o .rows))) (o .output);
-        inside = omega (arith, o .inside);
-        room = omega (arith, o .used);
-      }
+module _ (C : Contract) (numbers buffer : List ℕ) where
+  abbrev S : ℕ
+  S = C .transformation .symbols
 
-  -- "Otherwise root row and rows used come back, unused rows 0. The tree is one of the outputs defined above."
-  pub running-output : running C numbers buffer .answer ≡ ran root used → RanOutput C numbers buffer root used
-  unfolding running runningVerdict given
-  running-output answer = go (runningVerdict C numbers buffer) refl
-    where
-      go : (v : Verdict) → runningVerdict C numbers buffer ≡ v → RanOutput C numbers buffer root used
-      go (answers.refused number place) e = absurd (let a : refusal number place ≡ ran root used = rw e at answer in let z : _≡_ {A = ℕ} 0 1 = cc in omega arith)
-      go fine e =
-          let (admitted, rest) = then-fine (admission C) _ e in
-          let ends : running C numbers buffer ≡ closing (length buffer) (run (C .transformation) (rowCount buffer) (documentTree numbers)) = rw e in
-          closing-output (established C admitted) (run (C .transformation) (rowCount buffer) (documentTree numbers)) refl ends (sym (ap (λ (r : Ran). r .answer) ends) ∙ answer)
+  -- the work on the document that the numbers begin with
+  abbrev work : Step ℕ
+  work = run (C .transformation) (rowCount buffer) (leadingTree S numbers)
 
--- .. where the document is the tree whose numbers were handed in
-pub running-document : (C : Contract) (numbers buffer : List ℕ) (root used : ℕ) → running C numbers buffer .answer ≡ ran root used
-    → DocumentOf (C .transformation .symbols) numbers (documentTree numbers)
-unfolding running runningVerdict given
-running-document C numbers buffer root used answer = go (runningVerdict C numbers buffer) refl
-  where
-    go : (v : Verdict) → runningVerdict C numbers buffer ≡ v → DocumentOf (C .transformation .symbols) numbers (documentTree numbers)
-    go (answers.refused number place) e = absurd (let a : refusal number place ≡ ran root used = rw e at answer in let z : _≡_ {A = ℕ} 0 1 = cc in omega arith)
-    go fine e =
-        let (good, rest) = then-fine (admission C) _ e in
-        let (room, read) = then-fine _ _ rest in
-        fine-document (C .transformation .symbols) numbers read
+  -- what running gives for each verdict
+  passed : runningVerdict C numbers buffer ≡ fine → running C numbers buffer ≡ closing (length buffer) (numbersTaken S numbers) work
+  unfolding running
+  passed e = given-fine _ _ (runningVerdict C numbers buffer) e
 
--- "Whichever comes first in that order of work is given, and the buffer is then all 0."
-pub running-refusal : (C : Contract) (numbers buffer : List ℕ) (number place : ℕ) → runningVerdict C numbers buffer ≡ fine
-    → running C numbers buffer .answer ≡ refusal number place
-    → RunRefused C numbers buffer number place
-unfolding running runningVerdict given closing
-running-refusal C numbers buffer number place passed answer = go (run (C .transformation) (rowCount buffer) (documentTree numbers)) refl
-  where
-    ends : running C numbers buffer ≡ closing (length buffer) (run (C .transformation) (rowCount buffer) (documentTree numbers))
-    ends = rw passed
+  turned-away : (number place : ℕ) → runningVerdict C numbers buffer ≡ answers.refused number place
+      → running C numbers buffer ≡ record { answer = refusal number place; rows = buffer }
+  unfolding running
+  turned-away number place e = given-refused _ _ (runningVerdict C numbers buffer) number place e
 
-    go : (s : Step ℕ) → run (C .transformation) (rowCount buffer) (documentTree numbers) ≡ s → RunRefused C numbers buffer number place
-    go (made root w) e =
-        let said : ran root (w .tally .used) ≡ refusal number place = rw e at (sym (ap (λ (r : Ran). r .answer) ends) ∙ answer) in
-        absurd (let z : _≡_ {A = ℕ} 0 1 = cc in omega arith)
-    go (refused n p) e =
-        let said : refusal n p ≡ refusal number place = rw e at (sym (ap (λ (r : Ran). r .answer) ends) ∙ answer) in
-        let en : n ≡ number = cc in
-        let ep : p ≡ place = cc in
-        let (admitted, rest) = then-fine (admission C) _ passed in
+  module _ (root used taken : ℕ) where
+    closing-output : Established C → LeadingDocument S numbers (leadingTree S numbers) (numbersTaken S numbers) → (s : Step ℕ) → work ≡ s
+        → running C numbers buffer ≡ closing (length buffer) (numbersTaken S numbers) s
+        → closing (length buffer) (numbersTaken S numbers) s .answer ≡ ran root used taken
+        → RanOutput C numbers buffer root used taken
+    unfolding closing zeroFilled
+    closing-output E d (refused number place) e ends answer = absurd (let z : _≡_ {A = ℕ} 0 1 = cc in omega arith)
+    closing-output E d (made top w) e ends answer =
+        let er : top ≡ root = cc in
+        let eu : w .tally .used ≡ used = cc in
+        let et : numbersTaken S numbers ≡ taken = cc in
+        let o = run-output C E (rowCount buffer) (leadingTree S numbers) top w e in
+        let rows : running C numbers buffer .rows ≡ w .rows ++ replicate (length buffer - length (w .rows)) 0 = ap (λ (r : Ran). r .rows) ends in
         record {
-          reason = rw (en, ep) at (run-refusal C (established C admitted) (rowCount buffer) (documentTree numbers) n p e);
-          cleared = ap (λ (r : Ran). r .rows) ends ∙ rw e;
+          document = leadingTree S numbers;
+          leads = rw et at d;
+          output = rw (rows, ← er, tree-append (w .rows) (replicate (length buffer - length (w .rows)) 0) top (omega (arith, o .inside, o .rows))) (o .output);
+          inside = omega (arith, o .inside);
+          room = omega (arith, o .used);
         }
+
+    -- "Otherwise root row and rows used come back, unused rows 0. The tree is one of the outputs defined above."
+    pub running-output : running C numbers buffer .answer ≡ ran root used taken → RanOutput C numbers buffer root used taken
+    unfolding runningVerdict
+    running-output answer = go (runningVerdict C numbers buffer) refl
+      where
+        go : (v : Verdict) → runningVerdict C numbers buffer ≡ v → RanOutput C numbers buffer root used taken
+        go (answers.refused number place) e =
+            let said : refusal number place ≡ ran root used taken = sym (ap (λ (r : Ran). r .answer) (turned-away number place e)) ∙ answer in
+            absurd (let z : _≡_ {A = ℕ} 0 1 = cc in omega arith)
+        go fine e =
+            let (admitted, rest) = then-fine (admission C) _ e in
+            let (room, read) = then-fine _ _ rest in
+            closing-output (established C admitted) (fine-document S numbers read) work refl (passed e)
+            (sym (ap (λ (r : Ran). r .answer) (passed e)) ∙ answer)
+
+  -- "Whichever comes first in that order of work is given, and the buffer is then all 0."
+  pub running-refusal : (number place : ℕ) → runningVerdict C numbers buffer ≡ fine → running C numbers buffer .answer ≡ refusal number place
+      → RunRefused C numbers buffer number place
+  unfolding runningVerdict closing
+  running-refusal number place fits answer = go work refl
+    where
+      told : closing (length buffer) (numbersTaken S numbers) work .answer ≡ refusal number place
+      told = sym (ap (λ (r : Ran). r .answer) (passed fits)) ∙ answer
+
+      go : (s : Step ℕ) → work ≡ s → RunRefused C numbers buffer number place
+      go (made root w) e =
+          let said : ran root (w .tally .used) (numbersTaken S numbers) ≡ refusal number place = rw e at told in
+          absurd (let z : _≡_ {A = ℕ} 0 1 = cc in omega arith)
+      go (refused n p) e =
+          let said : refusal n p ≡ refusal number place = rw e at told in
+          let en : n ≡ number = cc in
+          let ep : p ≡ place = cc in
+          let (admitted, rest) = then-fine (admission C) _ fits in
+          record {
+            reason = rw (en, ep) at (run-refusal C (established C admitted) (rowCount buffer) (leadingTree S numbers) n p e);
+            cleared = ap (λ (r : Ran). r .rows) (passed fits) ∙ rw e;
+          }
+
+-- a document is run as it is alone, whatever follows it
+module _ (C : Contract) (good : Admitted C) (t : Tree) (document : IsDocument C t) (buffer : List ℕ) where
+  document-run : (rest : List ℕ)
+      → running C (preorder t ++ rest) buffer
+      ≡ given (admission C then refuseIf (rowsWrong (length buffer)) 9 0 then fine)
+      (λ number place. record { answer = refusal number place; rows = buffer })
+      (closing (length buffer) (length (preorder t)) (run (C .transformation) (rowCount buffer) t))
+  unfolding running runningVerdict
+  document-run rest =
+      let symbols : ℕ = C .transformation .symbols in
+      let some : 1 ≤ symbols = established C good .symbols .least≤ in
+      let read = reading-followed symbols t rest some (document .0) (document .1) in
+      rw (ends-fine symbols _ _ read, ends-taken symbols _ _ read, leading-tree-followed symbols t rest some (document .0) (document .1))
+
+  pub run-alone : (rest : List ℕ) → running C (preorder t ++ rest) buffer ≡ running C (preorder t) buffer
+  run-alone rest = document-run rest ∙ sym (rw (append-nil (preorder t)) at (document-run []))

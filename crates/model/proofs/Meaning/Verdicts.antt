@@ -6,26 +6,25 @@ use mathlib.Core.List.{List, [], _∷_, _++_}
 use mathlib.Core.Logic.{_↔_, _⊎_, inl, inr}
 use Prim.Native.Nat.{ℕ, _<_, _≤_}
 use native.Mathlib.Omega.{arith}
-use native.Mathlib.Decide.{decLt}
-use borrow.Author.Tests.{ltb-true, lt-ltb, leb-true, le-leb, eq-eqb, ne-eqb}
+use borrow.Author.Tests.{ltb-true, ltb-false, lt-ltb, le-ltb, leb-true, le-leb, eq-eqb, ne-eqb}
 use lib.Dec.{ltb, eqb}
-use lib.ListN.{length}
+use lib.ListN.{length, drop, length-take, take-append-drop}
 use Rattle.foundation.specs.Search.{first, first-at, first-before, first-hit}
-use Rattle.model.specs.Trees.{preorder}
+use Rattle.model.specs.Trees.{Tree, preorder}
 use Rattle.model.specs.Tables.{Contract, Node}
 use Rattle.model.specs.Rows.{rowCount, treeAt}
 use Rattle.model.specs.Answers.{Verdict, fine, refused, refuseIf, refuseFirst, refuseLowest, _then_}
 use Rattle.model.specs.Admission.{tagWrong, nameWrong, childWrong, referenceWrong, unusedFilled, nodeFault, lowestNodeFault, mostFacts, sizes, lengths, inputRows, entries, counts, nodes, rules, facts, admission}
-use Rattle.model.specs.Documents.{mostNumbers, Leading, ends, faulty, leading, wholeTree, document, documentTree}
+use Rattle.model.specs.Documents.{mostNumbers, Leading, ends, faulty, reading, numbersTaken, leadingTree, faultOf, leadingVerdict, wholeVerdict}
 use Rattle.model.specs.Judging.{judgingVerdict}
 use Rattle.model.specs.Checking.{checkingVerdict}
 use Rattle.model.specs.Running.{rowsWrong, runningVerdict}
 use Rattle.model.specs.WritingOut.{writingVerdict}
-use Rattle.model.specs.Refusals.{Reason, NothingWrong, FirstReason, NoReason, RefusesFor, LowestPlace, withNumber, lowest, only, LowestEntry, nodeReasons, NotOfRun, Fault, documentReasons, DocumentOf, DocumentVerdict, admissionReasons, judgingReasons, checkingReasons, runningReasons, writingReasons}
-use Rattle.model.proofs.Laws.Answers.{refused-not-fine, Only, refuse-if-told, refuse-if-only, refuse-if-refused, refuse-first-at, refuse-lowest-at, refuse-lowest-told, Numbers, then-numbers, refused-numbers, refuse-if-numbers, refuse-first-numbers}
+use Rattle.model.specs.Refusals.{Reason, NothingWrong, FirstReason, NoReason, RefusesFor, LowestPlace, withNumber, lowest, only, LowestEntry, nodeReasons, NotOfRun, BeginsWith, GoesOn, LeadingDocument, leadingReasons, ReadsLeading, DocumentOf, wholeReasons, ReadsWhole, admissionReasons, judgingReasons, checkingReasons, runningReasons, writingReasons}
+use Rattle.model.proofs.Laws.Answers.{refused-not-fine, then-fine, then-passed, Only, refuse-if-fine, refuse-if-passed, refuse-if-told, refuse-if-only, refuse-if-refused, refuse-first-at, refuse-lowest-at, refuse-lowest-told, Numbers, then-numbers, refused-numbers, refuse-if-numbers, refuse-first-numbers}
 use Rattle.model.proofs.Laws.Admitted.{established, admission-numbers, not-late}
-use Rattle.model.proofs.Laws.Documents.{over-proper, read-back, document-fine, document-preorder}
-use Rattle.model.proofs.Meaning.Faults.{whole-only, fault-exactly}
+use Rattle.model.proofs.Laws.Documents.{Leads, ends-taken, leading-fine, ends-fine, reading-followed, leading-tree-followed}
+use Rattle.model.proofs.Meaning.Faults.{endless-means, fault-only, fault-exactly}
 
 -- Reasons one behind another
 
@@ -174,13 +173,15 @@ unequal m n = (λ t e. true≢false (sym t ∙ ap not (eq-eqb m n e)), λ differ
 same-test : (test : Bool) → (test ≡ true) ↔ (test ≡ true)
 same-test test = (λ e. e, λ e. e)
 
--- "11, over 1,023 numbers (the length); 12, the first number not below S or after the tree has ended, or the length if the tree has
--- not ended"
-pub document-refusals : (S : ℕ) (numbers : List ℕ) → 1 ≤ S → RefusesFor (documentReasons S numbers) (document S numbers)
-unfolding document
-document-refusals S numbers some =
-    then-for _ _ _ _ (only-for _ (mostNumbers < length numbers) 11 (length numbers) (less mostNumbers (length numbers)))
-    (λ few. one-for _ 12 _ (whole-only S numbers some) (fault-exactly S numbers some))
+-- "11 is given exactly if the first 1,023 numbers hold neither a fault nor the end of the tree and more follow"; 12, ..
+pub leading-refusals : (S : ℕ) (numbers : List ℕ) → 1 ≤ S → RefusesFor (leadingReasons S numbers) (leadingVerdict S numbers)
+unfolding leadingVerdict
+leading-refusals S numbers some =
+    then-for _ _ _ _ (only-for _ (GoesOn S numbers mostNumbers × (mostNumbers < length numbers)) 11 (length numbers) (endless-means S numbers some))
+    (λ stops.
+    one-for _ 12 _ (fault-only S numbers some)
+    (fault-exactly S numbers some
+    (λ e. true≢false (sym (endless-means S numbers some .1 e) ∙ refuse-if-fine _ 11 (length numbers) stops))))
 
 -- "30 tag, 31 name, 32 child, 33 a reference not below the node, 34 unused field filled"
 pub node-refusals : (S : ℕ) (counts : List ℕ) (k : ℕ) (n : Node) → RefusesFor (nodeReasons S counts k n) (nodeFault S counts k n)
@@ -207,8 +208,9 @@ module _ (C : Contract) where
       only-for _ _ 8 _ (less mostFacts _)
 
   -- the document of an admitted contract
-  document-of : (numbers : List ℕ) → admission C ≡ fine → RefusesFor (documentReasons (C .transformation .symbols) numbers) (document (C .transformation .symbols) numbers)
-  document-of numbers good = document-refusals (C .transformation .symbols) numbers (established C good .symbols .least≤)
+  document-of : (numbers : List ℕ) → admission C ≡ fine
+      → RefusesFor (leadingReasons (C .transformation .symbols) numbers) (leadingVerdict (C .transformation .symbols) numbers)
+  document-of numbers good = leading-refusals (C .transformation .symbols) numbers (established C good .symbols .least≤)
 
   pub judging-refusals : (numbers buffer : List ℕ) → RefusesFor (judgingReasons C numbers buffer) (judgingVerdict C numbers buffer)
   unfolding judgingVerdict
@@ -247,51 +249,92 @@ checking-numbers C L rowBuffer wordBuffer =
     (refuse-first-numbers _ 9 _ 3 (λ ten. omega arith))
 
 pub running-numbers : (C : Contract) (numbers buffer : List ℕ) → Numbers NotOfRun (runningVerdict C numbers buffer)
-unfolding runningVerdict document wholeTree
+unfolding runningVerdict leadingVerdict faultOf
 running-numbers C numbers buffer =
     then-numbers _ _ _ (λ number place e l m. not-late number (admission-numbers C number place e) (omega arith) m)
     (then-numbers _ _ _ (refuse-if-numbers _ _ 9 0 (λ l m. omega arith))
-    (then-numbers _ _ _ (refuse-if-numbers _ _ 11 _ (λ l m. omega arith)) (whole (leading (C .transformation .symbols) numbers))))
+    (then-numbers _ _ _ (refuse-if-numbers _ _ 11 _ (λ l m. omega arith)) (fault (reading (C .transformation .symbols) numbers))))
   where
-    whole : (l : Leading) → Numbers NotOfRun (wholeTree (length numbers) l)
-    whole (ends place) = refuse-if-numbers _ _ 12 place (λ l m. omega arith)
-    whole (faulty place) = refused-numbers _ 12 place (λ l m. omega arith)
+    fault : (l : Leading) → Numbers NotOfRun (faultOf l)
+    fault (ends place) = λ number at e. absurd (refused-not-fine number at (sym e))
+    fault (faulty place) = refused-numbers _ 12 place (λ l m. omega arith)
 
 -- What is read of numbers
 
-pub fine-document : (S : ℕ) (numbers : List ℕ) → document S numbers ≡ fine → DocumentOf S numbers (documentTree numbers)
-fine-document S numbers e = let d = document-fine S numbers e in record { over = d .over; inPreorder = sym (d .numbers); few = d .few }
+module _ (S : ℕ) (numbers : List ℕ) where
+  -- the document that they begin with
+  pub fine-document : leadingVerdict S numbers ≡ fine → LeadingDocument S numbers (leadingTree S numbers) (numbersTaken S numbers)
+  unfolding leadingTree
+  fine-document e =
+      let l = leading-fine S numbers e in
+      let n : ℕ = numbersTaken S numbers in
+      record {
+        begins = record {
+          over = l .document .over;
+          rest = drop n numbers;
+          inPreorder = sym (take-append-drop n numbers) ∙ ap (λ (xs : List ℕ). xs ++ drop n numbers) (sym (l .document .numbers));
+          took = omega (arith, ap length (l .document .numbers), length-take n numbers, l .within);
+        };
+        few = omega (arith, l .document .few, length-take n numbers, l .within);
+      }
 
-pub document-exactly : (S : ℕ) (numbers : List ℕ) → 1 ≤ S → DocumentVerdict S numbers
-document-exactly S numbers some =
-    record {
-      tooLong = λ place. (λ e. long place (of-document .refuses 11 place .0 e), λ h. of-document .refuses 11 place .1 (inl (refl, h)));
-      faulty = λ place. (
-        λ e. misread place (of-document .refuses 12 place .0 e),
-        λ (few, fault). of-document .refuses 12 place .1 (inr (λ number p h. omega (arith, h .1 .0), inl (refl, fault))),
-      );
-      whole = (
-        λ e. (documentTree numbers, fine-document S numbers e),
-        λ (t, d).
-            subst (λ (xs : List ℕ). document S xs ≡ fine) (sym (d .inPreorder))
-            (document-preorder S t some (d .over) (subst (λ (xs : List ℕ). length xs ≤ mostNumbers) (d .inPreorder) (d .few))),
-      );
-      read = λ t d. ap documentTree (d .inPreorder) ∙ read-back t (over-proper S t (d .over));
-    }
-  where
-    of-document : RefusesFor (documentReasons S numbers) (document S numbers)
-    of-document = document-refusals S numbers some
+  module _ (some : 1 ≤ S) where
+    document-reads : (t : Tree) (n : ℕ) → LeadingDocument S numbers t n → reading S numbers ≡ ends n
+    document-reads t n d =
+        ap (reading S) (d .begins .inPreorder)
+        ∙ reading-followed S t (d .begins .rest) some (d .begins .over) (omega (arith, d .begins .took, d .few))
+        ∙ ap ends (sym (d .begins .took))
 
-    long : (place : ℕ) → FirstReason (documentReasons S numbers) 11 place → (mostNumbers < length numbers) × (place ≡ length numbers)
-    long place (inl (e, h)) = h
-    long place (inr (right, inl (e, fault))) = absurd (omega arith)
-    long place (inr (right, inr (free, nothing))) = absurd nothing
+    pub reads-leading : ReadsLeading S numbers
+    reads-leading =
+        record {
+          refuses = leading-refusals S numbers some;
+          passes = (
+            λ e. (leadingTree S numbers, numbersTaken S numbers, fine-document e),
+            λ (t, n, d). ends-fine S n numbers (document-reads t n d),
+          );
+          tree = λ t n d.
+              ap (leadingTree S) (d .begins .inPreorder)
+              ∙ leading-tree-followed S t (d .begins .rest) some (d .begins .over) (omega (arith, d .begins .took, d .few));
+          taken = λ t n d. ends-taken S n numbers (document-reads t n d);
+        }
 
-    misread : (place : ℕ) → FirstReason (documentReasons S numbers) 12 place → (length numbers ≤ mostNumbers) × Fault S numbers place
-    misread place (inl (e, h)) = absurd (omega arith)
-    misread place (inr (right, inl (e, fault))) = (not-long (decLt mostNumbers (length numbers)), fault)
-      where
-        not-long : Dec (mostNumbers < length numbers) → length numbers ≤ mostNumbers
-        not-long (yes l) = absurd (right 11 (length numbers) (refl, (l, refl)))
-        not-long (no l) = omega arith
-    misread place (inr (right, inr (free, nothing))) = absurd nothing
+    -- numbers after the tree, as a test
+    followed : leadingVerdict S numbers ≡ fine
+        → (place : ℕ) → (refuseIf (ltb (numbersTaken S numbers) (length numbers)) 12 (numbersTaken S numbers) ≡ refused 12 place)
+        ↔ (((t : Tree) × LeadingDocument S numbers t place) × (place < length numbers))
+    followed e place = (
+      λ told.
+          let (test, same) = refuse-if-told _ 12 _ 12 place told in
+          let more : numbersTaken S numbers < length numbers = ltb-true (numbersTaken S numbers) (length numbers) test in
+          (
+            (leadingTree S numbers, subst (LeadingDocument S numbers (leadingTree S numbers)) same (fine-document e)),
+            omega arith,
+          ),
+      λ ((t, d), more).
+          let same : numbersTaken S numbers ≡ place = reads-leading .taken t place d in
+          refuse-if-refused _ 12 _ (lt-ltb (numbersTaken S numbers) (length numbers) (omega arith)) ∙ ap (refused 12) same,
+    )
+
+    -- a document and nothing else
+    pub reads-whole : ReadsWhole S numbers
+    unfolding wholeVerdict
+    reads-whole =
+        record {
+          refuses =
+              then-for _ _ _ _ (only-for _ (mostNumbers < length numbers) 11 (length numbers) (less mostNumbers (length numbers))) λ few.
+              then-for _ _ _ _ (leading-refusals S numbers some) λ e.
+              one-for _ 12 _ (refuse-if-only _ 12 _) (followed e);
+          passes = (
+            λ e.
+                let (few, rest) = then-fine _ _ e in
+                let (read, all) = then-fine _ _ rest in
+                let l = leading-fine S numbers read in
+                let same : numbersTaken S numbers ≡ length numbers = omega (arith, ltb-false (numbersTaken S numbers) (length numbers) (refuse-if-fine _ 12 _ all), l .within) in
+                (leadingTree S numbers, subst (LeadingDocument S numbers (leadingTree S numbers)) same (fine-document read)),
+            λ (t, d).
+                then-passed _ _ (refuse-if-passed _ 11 _ (le-ltb mostNumbers (length numbers) (d .few)))
+                ∙ then-passed _ _ (reads-leading .passes .1 (t, length numbers, d))
+                ∙ refuse-if-passed _ 12 _ (le-ltb (numbersTaken S numbers) (length numbers) (omega (arith, reads-leading .taken t (length numbers) d))),
+          );
+        }
