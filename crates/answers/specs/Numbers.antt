@@ -10,6 +10,8 @@ use Rattle.answers.specs.declared.DocumentFault.{DocumentFault}
 use Rattle.answers.specs.declared.DocumentFault.the-variants as document
 use Rattle.answers.specs.declared.AdmissionAnswer.{AdmissionAnswer}
 use Rattle.answers.specs.declared.AdmissionAnswer.the-variants as admission
+use Rattle.answers.specs.declared.Judgement.{Judgement}
+use Rattle.answers.specs.declared.Judgement.the-variants as judgement
 use Rattle.answers.specs.declared.JudgingAnswer.{JudgingAnswer}
 use Rattle.answers.specs.declared.JudgingAnswer.the-variants as judging
 use Rattle.answers.specs.declared.CheckingAnswer.{CheckingAnswer}
@@ -49,13 +51,17 @@ abbrev pub admissionAnswer : AdmissionAnswer → Answer
 admissionAnswer admission.Admitted = admitted
 admissionAnswer (admission.Refused fault) = contractRefusal fault
 
+-- "0, not of the input type; 1, of it with no output outside the output type; 2, of it with such an output"
+abbrev pub judgementResult : Judgement → ℕ
+judgementResult judgement.Outside = 0
+judgementResult judgement.Sound = 1
+judgementResult judgement.Breaking = 2
+
 abbrev pub judgingAnswer : JudgingAnswer → Answer
 judgingAnswer (judging.Contract fault) = contractRefusal fault
 judgingAnswer judging.Buffer = refusal 9 0
 judgingAnswer (judging.Document fault) = documentRefusal fault
-judgingAnswer judging.Outside = judged 0
-judgingAnswer judging.Sound = judged 1
-judgingAnswer judging.Breaking = judged 2
+judgingAnswer (judging.Judged what taken) = judged (judgementResult what) taken
 
 abbrev pub checkingAnswer : CheckingAnswer → Answer
 checkingAnswer (checking.Contract fault) = contractRefusal fault
@@ -71,7 +77,7 @@ runningAnswer (running.Document fault) = documentRefusal fault
 runningAnswer (running.NoRule procedure) = refusal 13 (procedure .0)
 runningAnswer (running.NoRow rows) = refusal 14 rows
 runningAnswer running.TooManyCalls = refusal 15 mostCalls
-runningAnswer (running.Ran root used) = ran root used
+runningAnswer (running.Ran root used taken) = ran root used taken
 
 abbrev pub writingAnswer : WritingAnswer → Answer
 writingAnswer writing.Rows = refusal 16 0
@@ -83,9 +89,9 @@ writingAnswer (writing.Written count) = written count
 -- the answer of any operation
 abbrev pub numbered : code.Answer → Answer
 numbered answer.Admitted = admitted
-numbered (answer.Judged result) = judged result
+numbered (answer.Judged result taken) = judged result taken
 numbered (answer.Tree row) = tree row
 numbered (answer.Pass count) = pass count
-numbered (answer.Ran root used) = ran root used
+numbered (answer.Ran root used taken) = ran root used taken
 numbered (answer.Written count) = written count
 numbered (answer.Refused number place) = refusal number place

@@ -44,12 +44,22 @@ pub enum AdmissionAnswer {
     Refused(ContractFault),
 }
 
-// Why a document is none, with the place.
+// Why numbers begin with no document, with the place.
 pub enum DocumentFault {
-    // How many numbers there are, where these are too many.
+    // How many numbers there are, where the first 1,023 hold neither a fault nor the end of the tree and more follow.
     Length(usize),
-    // The first number that is no symbol or stands after the tree, or the end of a tree cut short.
+    // The first number that is no symbol, or the end of a tree cut short.
     Number(usize),
+}
+
+// What a document is for a contract.
+pub enum Judgement {
+    // Not of the input type.
+    Outside,
+    // Of the input type, with no output outside the output type.
+    Sound,
+    // Of the input type, with an output outside the output type.
+    Breaking,
 }
 
 // What judging says.
@@ -58,12 +68,8 @@ pub enum JudgingAnswer {
     // The kind buffer is not five words.
     Buffer,
     Document(DocumentFault),
-    // Not of the input type.
-    Outside,
-    // Of the input type, with no output outside the output type.
-    Sound,
-    // Of the input type, with an output outside the output type.
-    Breaking,
+    // What the document is, and how many numbers it took.
+    Judged(Judgement, usize),
 }
 
 // What checking says.
@@ -91,8 +97,8 @@ pub enum RunningAnswer {
     NoRow(usize),
     // More calls than are made.
     TooManyCalls,
-    // The root row, and how many rows are used.
-    Ran(usize, usize),
+    // The root row, how many rows are used, and how many numbers the document took.
+    Ran(usize, usize, usize),
 }
 
 // What writing out says.

@@ -1,10 +1,11 @@
 // An answer of any of the five operations, in document 01's numbers.
 ghost use mathlib.Core.Path.{_≡_};
-ghost use Rattle.answers.specs.Numbers.{numbered, nodeFaultNumber, contractRefusal, documentRefusal, admissionAnswer, judgingAnswer, checkingAnswer, runningAnswer, writingAnswer};
+ghost use Rattle.answers.specs.Numbers.{numbered, nodeFaultNumber, contractRefusal, documentRefusal, admissionAnswer, judgementResult, judgingAnswer, checkingAnswer, runningAnswer, writingAnswer};
 use crate::AdmissionAnswer;
 use crate::CheckingAnswer;
 use crate::ContractFault;
 use crate::DocumentFault;
+use crate::Judgement;
 use crate::JudgingAnswer;
 use crate::NodeFault;
 use crate::RunningAnswer;
@@ -13,10 +14,12 @@ use crate::WritingAnswer;
 // The cases of the model's answer, with their values.
 pub enum Answer {
     Admitted,
-    Judged(usize),
+    // The result, and the numbers taken.
+    Judged(usize, usize),
     Tree(usize),
     Pass(usize),
-    Ran(usize, usize),
+    // The root row, the rows used, and the numbers taken.
+    Ran(usize, usize, usize),
     Written(usize),
     Refused(usize, usize),
 }
@@ -58,6 +61,17 @@ fn of_document(fault: DocumentFault) -> Answer
     }
 }
 
+// The result of a judgement.
+fn result_of(judgement: Judgement) -> usize
+    ensures { λ r. ⌜ r ≡ judgementResult judgement ⌝ }
+{
+    match judgement {
+        Judgement::Outside => 0,
+        Judgement::Sound => 1,
+        Judgement::Breaking => 2,
+    }
+}
+
 pub fn of_admission(answer: AdmissionAnswer) -> Answer
     ensures { λ r. ⌜ numbered r ≡ admissionAnswer answer ⌝ }
 {
@@ -74,9 +88,7 @@ pub fn of_judging(answer: JudgingAnswer) -> Answer
         JudgingAnswer::Contract(fault) => of_contract(fault),
         JudgingAnswer::Buffer => Answer::Refused(9, 0),
         JudgingAnswer::Document(fault) => of_document(fault),
-        JudgingAnswer::Outside => Answer::Judged(0),
-        JudgingAnswer::Sound => Answer::Judged(1),
-        JudgingAnswer::Breaking => Answer::Judged(2),
+        JudgingAnswer::Judged(judgement, taken) => Answer::Judged(result_of(judgement), taken),
     }
 }
 
@@ -102,7 +114,7 @@ pub fn of_running(answer: RunningAnswer) -> Answer
         RunningAnswer::NoRule(procedure) => Answer::Refused(13, procedure.0 as usize),
         RunningAnswer::NoRow(rows) => Answer::Refused(14, rows),
         RunningAnswer::TooManyCalls => Answer::Refused(15, 65536),
-        RunningAnswer::Ran(root, used) => Answer::Ran(root, used),
+        RunningAnswer::Ran(root, used, taken) => Answer::Ran(root, used, taken),
     }
 }
 

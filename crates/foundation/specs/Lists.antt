@@ -2,12 +2,13 @@
 use mathlib.Core.Path.{_≡_, refl, ap, ap₂, subst, sym, _∙_}
 use mathlib.Core.List.{List, [], _∷_, _++_}
 use mathlib.Core.Bool.{Bool, true, false}
-use Prim.Native.Nat.{ℕ, _+_, _-_, _≤_, _<_}
+use Prim.Native.Nat.{ℕ, _+_, _-_, _≤_, _<_, min}
 use native.Mathlib.Omega.{arith}
 use native.Mathlib.Decide.{ℕ-discrete}
-use lib.Dec.{T}
-use lib.ListN.{length, getD, set, replicate, length-append, length-replicate}
-use lib.Seq.{getD-set-same, getD-set-other}
+use lib.Dec.{T, leb}
+use lib.ListN.{length, getD, take, set, replicate, length-append, length-replicate}
+use lib.Seq.{take-all, getD-set-same, getD-set-other}
+use borrow.Author.Tests.{leb-true, leb-false}
 use Rattle.foundation.specs.Tests.{_and_, same, and-left, and-right, and-both, same-eq, eq-same}
 
 -- l, and then zeros up to n numbers
@@ -17,6 +18,16 @@ zeroFilled n l = l ++ replicate (n - length l) 0
 pub length-filled : (n : ℕ) (l : List ℕ) → length l ≤ n → length (zeroFilled n l) ≡ n
 unfolding zeroFilled
 length-filled n l h = length-append l (replicate (n - length l) 0) ∙ rw (length-replicate {A = ℕ} (n - length l) 0) (omega arith)
+
+-- a part that would end behind the list ends with it
+pub take-clipped : (l : List ℕ) (n end : ℕ) → end ≡ min n (length l) → take n l ≡ take end l
+take-clipped l n end e = go (leb n (length l)) refl
+  where
+    go : (t : Bool) → leb n (length l) ≡ t → take n l ≡ take end l
+    go true t = let h : n ≤ length l = leb-true _ _ t in let same : n ≡ end = omega arith in ap (λ (k : ℕ). take k l) same
+    go false t =
+        let h : length l < n = leb-false _ _ t in
+        take-all n l (omega arith) ∙ sym (take-all end l (omega arith))
 
 -- two lists of numbers are equal, as a test
 unfoldable pub sameList : List ℕ → List ℕ → Bool

@@ -4,23 +4,25 @@ use mathlib.Core.List.{List, [], _∷_, _++_}
 use mathlib.Core.Bool.{Bool}
 use Prim.Native.Nat.{ℕ}
 use lib.ListN.{length, take}
+use lib.Seq.{length-take-le}
 use borrow.Author.Tests.{eq-eqb, ne-eqb}
 use Rattle.foundation.specs.Tests.{choose}
 use Rattle.model.specs.Tables.{Contract}
 use Rattle.model.specs.Trees.{Tree}
 use Rattle.model.specs.Kinds.{kindOf}
-use Rattle.model.specs.Documents.{document, documentTree}
+use Rattle.model.specs.Documents.{documentTree, numbersTaken, leadingTree, leadingVerdict}
 use Rattle.model.specs.Answers.{fine, refuseIf, _then_, Answer, judged, refusal, given}
 use Rattle.model.specs.Admission.{admission, admit}
 use Rattle.model.specs.Judging.{Judged, judgement, judgingVerdict, judging}
 use Rattle.model.proofs.Laws.Answers.{given-stopped}
 use Rattle.model.proofs.Laws.Established.{Established}
-use Rattle.model.proofs.Laws.Documents.{Document}
+use Rattle.model.proofs.Laws.Documents.{Document, Leads, leading-fine}
 use Rattle.answers.specs.Numbers.{contractRefusal, documentRefusal}
 use Rattle.answers.specs.declared.ContractFault.{ContractFault}
 use Rattle.answers.specs.declared.DocumentFault.{DocumentFault}
 use Rattle.answers.specs.declared.DocumentFault.the-variants as document-fault
-use Rattle.reading.specs.Answers.{faultVerdict}
+use Rattle.reading.specs.declared.Reading.{Reading}
+use Rattle.reading.specs.Answers.{faultVerdict, readingVerdict, takenOf}
 use Rattle.answers.proofs.Answered.{refused-as}
 use Rattle.breaking.specs.declared.Verdicts.{Verdicts}
 use Rattle.breaking.specs.Verdicts.{VerdictsOf, accepting, breaking, accepting-is, breaking-is}
@@ -31,29 +33,58 @@ pub record Comes (answer : Answer) (words : List ℕ) (to : Judged) : Type 0 whe
   pub answers : answer ≡ to .answer
   pub closes : words ≡ to .words
 
--- the judgement of a tree, and its kind
-abbrev pub judgedTree : Contract → Tree → Judged
-judgedTree C t = record { answer = judged (judgement C (kindOf C t)); words = kindOf C t }
+-- the judgement of a tree that took so many numbers, and its kind
+abbrev pub judgedTree : Contract → Tree → ℕ → Judged
+judgedTree C t taken = record { answer = judged (judgement C (kindOf C t)) taken; words = kindOf C t }
 
 -- 0, not of the input type; 1, of it and not breaking the contract; 2, of it and breaking
-abbrev pub judgementBy : (accepts breaks : Bool) → Answer
-judgementBy accepts breaks = judged (choose accepts (choose breaks 2 1) 0)
+abbrev pub judgementBy : (accepts breaks : Bool) → ℕ
+judgementBy accepts breaks = choose accepts (choose breaks 2 1) 0
 
 -- what the two words of a contract tell of a kind
-abbrev pub told : Verdicts → List ℕ → Answer
+abbrev pub told : Verdicts → List ℕ → ℕ
 told v kind = judgementBy (accepting (v .accepted) kind) (breaking (v .accepted) (v .refused) kind)
 
 -- which is the judgement; the kind of a tree is held with a sixth word, and written without
-pub comes-judged : (C : Contract) (v : Verdicts) (t : Tree) (answer : Answer) (held written : List ℕ) → Established C → VerdictsOf (C .input .marks) (C .output .marks) v
+pub comes-judged : (C : Contract) (v : Verdicts) (t : Tree) (result taken : ℕ) (held written : List ℕ) → Established C → VerdictsOf (C .input .marks) (C .output .marks) v
     → held ≡ kindOf C t ++ (0 ∷ [])
     → written ≡ take 5 held
-    → answer ≡ told v held
-    → Comes answer written (judgedTree C t)
+    → result ≡ told v held
+    → Comes (judged result taken) written (judgedTree C t taken)
 unfolding judgement
-comes-judged C v t answer held written known of kind puts says =
+comes-judged C v t result taken held written known of kind puts says =
     let five : take 5 held ≡ kindOf C t = ap (λ (k : List ℕ). take 5 k) kind ∙ kind-taken C t in
-    let is : told v held ≡ judged (judgement C (take 5 held)) = ap₂ judgementBy (accepting-is C known v of held) (breaking-is C known v of held) in
-    record { answers = says ∙ is ∙ ap (λ (k : List ℕ). judged (judgement C k)) five; closes = puts ∙ five }
+    let is : told v held ≡ judgement C (take 5 held) = ap₂ judgementBy (accepting-is C known v of held) (breaking-is C known v of held) in
+    record { answers = ap (λ (r : ℕ). judged r taken) (says ∙ is ∙ ap (judgement C) five); closes = puts ∙ five }
+
+-- what reading establishes: the document takes so many numbers, which are one by themselves
+pub record Taken (C : Contract) (taken : ℕ) (numbers : List ℕ) : Type 0 where
+  pub passes : leadingVerdict (C .transformation .symbols) numbers ≡ fine
+  pub same : taken ≡ numbersTaken (C .transformation .symbols) numbers
+  pub leads : Leads (C .transformation .symbols) taken numbers
+
+-- by what `read` promises, where it refuses nothing
+pub taken-read : (C : Contract) (numbers : List ℕ) (reading : Reading) (taken : ℕ)
+    → readingVerdict reading ≡ leadingVerdict (C .transformation .symbols) numbers
+    → takenOf reading ≡ numbersTaken (C .transformation .symbols) numbers
+    → readingVerdict reading ≡ fine
+    → taken ≡ takenOf reading
+    → Taken C taken numbers
+taken-read C numbers reading taken verdict takes passes e =
+    let fits : leadingVerdict (C .transformation .symbols) numbers ≡ fine = sym verdict ∙ passes in
+    let same : taken ≡ numbersTaken (C .transformation .symbols) numbers = e ∙ takes in
+    record { passes = fits; same = same; leads = rw same (leading-fine (C .transformation .symbols) numbers fits) }
+
+-- also of a contract that is this one
+pub document-in : (C D : Contract) (taken : ℕ) (numbers : List ℕ) → D ≡ C → Taken C taken numbers → Document (D .transformation .symbols) (take taken numbers)
+document-in C D taken numbers e d = subst (λ (D : Contract). Document (D .transformation .symbols) (take taken numbers)) (sym e) (d .leads .document)
+
+-- nothing is refused
+pub record LetIn (C : Contract) (taken : ℕ) (numbers buffer : List ℕ) : Type 0 where
+  pub passed : admission C ≡ fine
+  pub known : Established C
+  pub five : length buffer ≡ 5
+  pub read : Taken C taken numbers
 
 module _ (C : Contract) (numbers buffer : List ℕ) where
   pub refused-contract : (fault : ContractFault) → contractRefusal fault ≡ admit C → Comes (contractRefusal fault) buffer (judging C numbers buffer)
@@ -68,21 +99,20 @@ module _ (C : Contract) (numbers buffer : List ℕ) where
   unfolding judging judgingVerdict given _then_ refuseIf
   refused-buffer e ne = record { answers = rw (e, ne-eqb (length buffer) 5 ne); closes = rw (e, ne-eqb (length buffer) 5 ne) }
 
-  pub refused-document : admission C ≡ fine → length buffer ≡ 5 → (fault : DocumentFault) → faultVerdict fault ≡ document (C .transformation .symbols) numbers
+  pub refused-document : admission C ≡ fine → length buffer ≡ 5 → (fault : DocumentFault) → faultVerdict fault ≡ leadingVerdict (C .transformation .symbols) numbers
       → Comes (documentRefusal fault) buffer (judging C numbers buffer)
   unfolding judging judgingVerdict given _then_ refuseIf
   refused-document e l (document-fault.Length n) d = record { answers = rw (e, eq-eqb (length buffer) 5 l, ← d); closes = rw (e, eq-eqb (length buffer) 5 l, ← d) }
   refused-document e l (document-fault.Number n) d = record { answers = rw (e, eq-eqb (length buffer) 5 l, ← d); closes = rw (e, eq-eqb (length buffer) 5 l, ← d) }
 
-  -- with nothing refused, the judgement of the document's tree by a contract that is this one
-  pub judged-document : admission C ≡ fine → length buffer ≡ 5 → document (C .transformation .symbols) numbers ≡ fine → {answer : Answer} {words : List ℕ} (D : Contract) → D ≡ C
-      → Comes answer words (judgedTree D (documentTree numbers))
+  -- with nothing refused, the judgement of the numbers taken by a contract that is this one
+  pub judged-document : {taken : ℕ} → LetIn C taken numbers buffer → {answer : Answer} {words : List ℕ} (D : Contract) → D ≡ C
+      → Comes answer words (judgedTree D (documentTree (take taken numbers)) (length (take taken numbers)))
       → Comes answer words (judging C numbers buffer)
-  unfolding judging judgingVerdict given _then_ refuseIf
-  judged-document e l d D same comes =
-      let q : judging C numbers buffer ≡ judgedTree C (documentTree numbers) = rw (e, eq-eqb (length buffer) 5 l, d) in
-      rw q (rw same at comes)
-
--- a document of a contract's symbols is one of a contract that is this one
-pub document-in : (C D : Contract) (numbers : List ℕ) → D ≡ C → Document (C .transformation .symbols) numbers → Document (D .transformation .symbols) numbers
-document-in C D numbers e document = subst (λ (D : Contract). Document (D .transformation .symbols) numbers) (sym e) document
+  unfolding judging judgingVerdict leadingTree given _then_ refuseIf
+  judged-document {taken} l D same comes =
+      let S : ℕ = C .transformation .symbols in
+      let whole : length (take taken numbers) ≡ taken = length-take-le taken numbers (l .read .leads .within) in
+      let q : judging C numbers buffer ≡ judgedTree C (documentTree (take (numbersTaken S numbers) numbers)) (numbersTaken S numbers) =
+      rw (l .passed, eq-eqb (length buffer) 5 (l .five), l .read .passes) in
+      rw (q, ← l .read .same) (rw (same, whole) at comes)

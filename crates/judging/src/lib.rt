@@ -1,16 +1,17 @@
-// Judging a document: whether it is of the input type, and whether an output is outside the output type; the kind of its tree
-// is written.
+// Judging the document that numbers begin with: whether it is of the input type, and whether an output is outside the output type;
+// the kind of its tree is written, and how many numbers it took is told.
 ghost use mathlib.Core.Path.{_≡_};
 ghost use lib.ListN.{length, take};
 ghost use Rattle.model.specs.Tables.{contract};
 ghost use Rattle.model.specs.Documents.{documentTree};
 ghost use Rattle.model.specs.Judging.{judging};
 ghost use Rattle.model.proofs.Laws.Documents.{Document};
-ghost use Rattle.answers.specs.Numbers.{judgingAnswer};
+ghost use Rattle.answers.specs.Numbers.{judgementResult, judgingAnswer};
 ghost use Rattle.prepared.specs.Parts.{contractIn, Ready};
 ghost use Rattle.judging.specs.Steps.{Comes, judgedTree, told};
 use admission::admit;
 use answers::AdmissionAnswer;
+use answers::Judgement;
 use answers::JudgingAnswer;
 use breaking::Verdicts;
 use breaking::breaks;
@@ -20,8 +21,9 @@ use prepared::Prepared;
 use preparing::most_table;
 use preparing::prepare;
 use preparing::table_length;
-use reading::DocumentAnswer;
-use reading::document;
+use reading::Reading;
+use reading::read;
+use reading::taken_of;
 
 // Writes the five words of a kind.
 fn write_kind(words: &[u64; 6], kind: &mut [u64])
@@ -36,19 +38,19 @@ fn write_kind(words: &[u64; 6], kind: &mut [u64])
 }
 
 // What a kind tells of its document.
-fn judgement_of(verdicts: Verdicts, kind: &[u64; 6]) -> JudgingAnswer
-    ensures { λ r. ⌜ judgingAnswer r ≡ told verdicts (now (kind .entry)) ⌝ }
+fn judgement_of(verdicts: Verdicts, kind: &[u64; 6]) -> Judgement
+    ensures { λ r. ⌜ judgementResult r ≡ told verdicts (now (kind .entry)) ⌝ }
 {
     if of_input_type(verdicts, kind) {
         if breaks(verdicts, kind) {
-            return JudgingAnswer::Breaking;
+            return Judgement::Breaking;
         }
-        return JudgingAnswer::Sound;
+        return Judgement::Sound;
     }
-    JudgingAnswer::Outside
+    Judgement::Outside
 }
 
-// Judges a document by a prepared contract: the kind of its tree is written, and tells the answer.
+// Judges a document, which is all of the numbers, by a prepared contract: the kind of its tree is written, and tells the judgement.
 fn judge_prepared(
     prepared: Prepared,
     table: &[u16],
@@ -56,14 +58,16 @@ fn judge_prepared(
     kind: &mut [u64],
 ) -> JudgingAnswer
     requires { ⌜ Ready prepared (now table) × Document (prepared .symbols) (now numbers) × (length (now kind) ≡ 5) ⌝ }
-    ensures { λ r. ⌜ Comes (judgingAnswer r) (now (kind .exit)) (judgedTree (contractIn prepared (now (table .entry))) (documentTree (now (numbers .entry)))) ⌝ }
+    ensures { λ r. ⌜ Comes (judgingAnswer r) (now (kind .exit)) (judgedTree (contractIn prepared (now (table .entry))) (documentTree (now (numbers .entry))) (length (now (numbers .entry)))) ⌝ }
 {
     let words = document_kind(prepared, table, numbers);
     write_kind(&words, kind);
-    judgement_of(prepared.verdicts, &words)
+    let judgement = judgement_of(prepared.verdicts, &words);
+    JudgingAnswer::Judged(judgement, numbers.len())
 }
 
-// Judges a document: the answer, and the kind of its tree in `kind`, which is not written where something is refused.
+// Judges the document that the numbers begin with: the answer, and the kind of its tree in `kind`, which is not written where
+// something is refused.
 pub fn judge(
     symbols: usize,
     input_states: usize,
@@ -98,10 +102,11 @@ pub fn judge(
     if kind.len() != 5 {
         return JudgingAnswer::Buffer;
     }
-    let reading = document(symbols, numbers);
-    if let DocumentAnswer::Refused(fault) = reading {
+    let reading = read(symbols, numbers);
+    if let Reading::Refused(fault) = reading {
         return JudgingAnswer::Document(fault);
     }
+    let taken = taken_of(reading);
     let mut left_masks = [0u64; 80];
     let mut right_masks = [0u64; 80];
     let length = table_length(
@@ -130,7 +135,7 @@ pub fn judge(
             &mut left_masks,
             &mut right_masks,
         );
-        return judge_prepared(prepared, &table, numbers, kind);
+        return judge_prepared(prepared, &table, &numbers[..taken], kind);
     }
     let mut table = most_table();
     let prepared = prepare(
@@ -148,5 +153,5 @@ pub fn judge(
         &mut left_masks,
         &mut right_masks,
     );
-    judge_prepared(prepared, &table, numbers, kind)
+    judge_prepared(prepared, &table, &numbers[..taken], kind)
 }

@@ -1,4 +1,4 @@
--- Parts of a list: where a part ends behind the list it ends with it.
+-- Parts of a list, and its line feeds.
 use mathlib.Core.Path.{_≡_, refl, ap, sym, _∙_}
 use mathlib.Core.Bool.{Bool, true, false}
 use mathlib.Core.List.{List, [], _∷_}
@@ -7,18 +7,9 @@ use native.Mathlib.Omega.{arith}
 use lib.Dec.{leb}
 use borrow.Author.Tests.{leb-true, leb-false}
 use lib.ListN.{length, take, drop, length-drop}
-use lib.Seq.{take-all}
+use Rattle.foundation.specs.Lists.{take-clipped}
 use Rattle.lexing.specs.Text.{newlines}
 use Rattle.lexing.proofs.Scans.{line-feed-small}
-
-pub take-clipped : (l : List ℕ) (n end : ℕ) → end ≡ min n (length l) → take n l ≡ take end l
-take-clipped l n end e = go (leb n (length l)) refl
-  where
-    go : (t : Bool) → leb n (length l) ≡ t → take n l ≡ take end l
-    go true t = let h : n ≤ length l = leb-true _ _ t in let same : n ≡ end = omega arith in ap (λ (k : ℕ). take k l) same
-    go false t =
-        let h : length l < n = leb-false _ _ t in
-        take-all n l (omega arith) ∙ sym (take-all end l (omega arith))
 
 -- a stretch that begins within a list
 pub part-clipped : (l : List ℕ) (from to start end : ℕ) → from < length l → end ≡ min to (length l) → start ≡ min from end

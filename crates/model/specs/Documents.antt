@@ -80,7 +80,7 @@ leadingTree S xs = documentTree (take (numbersTaken S xs) xs)
 -- of n numbers, "the first 1,023 numbers hold neither a fault nor the end of the tree and more follow"
 unfoldable pub endless : ℕ → Leading → Bool
 endless n (ends at) = false
-endless n (faulty at) = eqb at mostNumbers && ltb at n
+endless n (faulty at) = eqb at mostNumbers && ltb mostNumbers n
 
 -- "12, the first number not below S .. or the length if the tree has not ended"; "no longer given there for numbers after the tree"
 unfoldable pub faultOf : Leading → Verdict

@@ -1,14 +1,15 @@
 -- The readings and verdicts of the model that the code's answers stand for.
 use mathlib.Core.Path.{_≡_, refl}
-use Rattle.model.specs.Answers.{Verdict, fine, refused, Answer, refusal, given}
+use Prim.Native.Nat.{ℕ}
+use Rattle.model.specs.Answers.{Verdict, fine, refused, refuseIf, _then_, Answer, refusal, given}
 use Rattle.model.specs.Documents as model
 use Rattle.answers.specs.declared.DocumentFault.{DocumentFault}
 use Rattle.answers.specs.declared.DocumentFault.the-variants as fault
 use Rattle.answers.specs.Numbers.{documentRefusal}
 use Rattle.reading.specs.declared.Leading.{Leading}
 use Rattle.reading.specs.declared.Leading.the-variants as leading
-use Rattle.reading.specs.declared.DocumentAnswer.{DocumentAnswer}
-use Rattle.reading.specs.declared.DocumentAnswer.the-variants as answer
+use Rattle.reading.specs.declared.Reading.{Reading}
+use Rattle.reading.specs.declared.Reading.the-variants as reading
 
 abbrev pub leadingOf : Leading → model.Leading
 leadingOf (leading.Ends at) = model.ends at
@@ -19,9 +20,18 @@ abbrev pub faultVerdict : DocumentFault → Verdict
 faultVerdict (fault.Length numbers) = refused 11 numbers
 faultVerdict (fault.Number place) = refused 12 place
 
-abbrev pub documentVerdict : DocumentAnswer → Verdict
-documentVerdict answer.Whole = fine
-documentVerdict (answer.Refused fault) = faultVerdict fault
+abbrev pub readingVerdict : Reading → Verdict
+readingVerdict (reading.Takes taken) = fine
+readingVerdict (reading.Refused fault) = faultVerdict fault
+
+-- how many numbers were taken
+abbrev pub takenOf : Reading → ℕ
+takenOf (reading.Takes taken) = taken
+takenOf (reading.Refused fault) = 0
+
+-- what is refused of n numbers that begin so
+abbrev pub verdictOn : ℕ → model.Leading → Verdict
+verdictOn n leading = refuseIf (model.endless n leading) 11 n then model.faultOf leading
 
 -- a fault is answered by its refusal, whatever else the answer holds
 pub fault-given : {A : Type 0} (f : DocumentFault) (with-answer : Answer → A) (a : A)

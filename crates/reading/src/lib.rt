@@ -1,14 +1,14 @@
-// Reading documents: the tree that a stretch of numbers begins with, the refusals of a document, and where the tree of each
-// place ends.
+// Reading documents: the tree that a stretch of numbers begins with, what is refused of it, how many numbers it takes, and where the
+// tree of each place ends.
 //
-// Judging and running start with `document`. They find the children of place i by what `fill_ends` fills: the left child
-// starts at place i + 1, the right child where the left one ends.
+// Judging and running start with `read`, and go on with the numbers that the document takes. They find the children of place i by
+// what `fill_ends` fills: the left child starts at place i + 1, the right child where the left one ends.
 ghost use mathlib.Core.Path.{_≡_};
-ghost use Prim.Native.Nat.{_+_, _-_, _^_, _≤_, _<_};
+ghost use Prim.Native.Nat.{_+_, _-_, _^_, _≤_, _<_, min};
 ghost use lib.ListN.{length, getD};
-ghost use Rattle.model.specs.Documents.{leading, document, mostNumbers};
+ghost use Rattle.model.specs.Documents.{mostNumbers, faulty, leading, numbersTaken, leadingVerdict};
 ghost use Rattle.model.proofs.Laws.Documents.{dueAfter, Readable, endFrom};
-ghost use Rattle.reading.specs.Answers.{leadingOf, documentVerdict};
+ghost use Rattle.reading.specs.Answers.{leadingOf, faultVerdict, readingVerdict, takenOf, verdictOn};
 ghost use Rattle.reading.specs.Ends.{EndsFrom};
 use answers::DocumentFault;
 use tables::Symbol;
@@ -22,10 +22,10 @@ pub enum Leading {
     Faulty(usize),
 }
 
-// What reading a document says.
-pub enum DocumentAnswer {
-    // The numbers are a tree's, all of them.
-    Whole,
+// What reading the document that numbers begin with says.
+pub enum Reading {
+    // Its tree takes so many numbers.
+    Takes(usize),
     Refused(DocumentFault),
 }
 
@@ -67,22 +67,43 @@ pub fn leading_tree(symbols: usize, numbers: &[u16]) -> Leading
     Leading::Ends(at)
 }
 
-// Whether the numbers are a document: 1 to 1,023 numbers of one tree, with none left over.
-pub fn document(symbols: usize, numbers: &[u16]) -> DocumentAnswer
-    ensures { λ r. ⌜ documentVerdict r ≡ document symbols (now (numbers .entry)) ⌝ }
+// How many numbers are looked at: the first 1,023, or all where there are fewer.
+fn looked_at(length: usize) -> usize
+    ensures { λ r. ⌜ r ≡ min mostNumbers length ⌝ }
+{
+    if length < 1023 { length } else { 1023 }
+}
+
+// What is refused where the numbers looked at have a fault: 11 if they go on to the last of them and more follow, otherwise 12.
+fn fault_of(length: usize, place: usize) -> DocumentFault
+    ensures { λ r. ⌜ faultVerdict r ≡ verdictOn length (faulty place) ⌝ }
+{
+    if (place == 1023) & (1023 < length) {
+        return DocumentFault::Length(length);
+    }
+    DocumentFault::Number(place)
+}
+
+// Reads the document that the numbers begin with. What stands behind its tree, or behind the first 1,023 numbers, is not looked at.
+pub fn read(symbols: usize, numbers: &[u16]) -> Reading
+    ensures { λ r. ⌜ readingVerdict r ≡ leadingVerdict symbols (now (numbers .entry)) ⌝ }
+    ensures { λ r. ⌜ takenOf r ≡ numbersTaken symbols (now (numbers .entry)) ⌝ }
 {
     let length = numbers.len();
-    if 1023 < length {
-        return DocumentAnswer::Refused(DocumentFault::Length(length));
+    let end = looked_at(length);
+    match leading_tree(symbols, &numbers[..end]) {
+        Leading::Ends(taken) => Reading::Takes(taken),
+        Leading::Faulty(place) => Reading::Refused(fault_of(length, place)),
     }
-    match leading_tree(symbols, numbers) {
-        Leading::Ends(at) => {
-            if at < length {
-                return DocumentAnswer::Refused(DocumentFault::Number(at));
-            }
-            DocumentAnswer::Whole
-        }
-        Leading::Faulty(at) => DocumentAnswer::Refused(DocumentFault::Number(at)),
+}
+
+// How many numbers were taken; none where the document is refused.
+pub fn taken_of(reading: Reading) -> usize
+    ensures { λ r. ⌜ r ≡ takenOf reading ⌝ }
+{
+    match reading {
+        Reading::Takes(taken) => taken,
+        Reading::Refused(_) => 0,
     }
 }
 

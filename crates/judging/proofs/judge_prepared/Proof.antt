@@ -19,7 +19,7 @@ same-length c = search needs
 returns : tie.Need-returns
 returns c =
     let ready = c .before .before .before .before .before .before .before .before .before .before .before .pre .0 in
-    comes-judged _ _ _ _ _ _ (ready .prepared .established) (ready .verdicts) (c .before .before .before .before .before .before .before .document-kind .ensures) (c .before .before .before .before .write-kind .ensures) (c .judgement-of .ensures)
+    comes-judged _ _ _ _ _ _ _ (ready .prepared .established) (ready .verdicts) (c .before .before .before .before .before .before .before .document-kind .ensures) (c .before .before .before .before .write-kind .ensures) (c .judgement-of .ensures)
 
 pub judge-prepared-spec : {M : Type 1} → statement M
 judge-prepared-spec =

@@ -201,13 +201,12 @@ module _ (S : ℕ) (xs : List ℕ) (some : 1 ≤ S) where
       to : (l : Leading) → leading S (take mostNumbers xs) ≡ l → endless (length xs) l ≡ true → Endless
       to (ends n) r e = absurd (true≢false (sym e))
       to (faulty n) r e =
-          let (whole, follows) = both-true (eqb n mostNumbers) (ltb n (length xs)) e in
+          let (whole, follows) = both-true (eqb n mostNumbers) (ltb mostNumbers (length xs)) e in
           let all : n ≡ mostNumbers = eqb-true n mostNumbers whole in
-          let more : n < length xs = ltb-true n (length xs) follows in
           (
             goes-on-further S xs mostNumbers mostNumbers (omega arith)
                 (subst (GoesOn S (take mostNumbers xs)) all (fault-goes-on S some (take mostNumbers xs) n (faulty-fault S some (take mostNumbers xs) n r))),
-            omega arith,
+            ltb-true mostNumbers (length xs) follows,
           )
 
       from : Endless → endless (length xs) (leading S (take mostNumbers xs)) ≡ true

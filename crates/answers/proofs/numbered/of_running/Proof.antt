@@ -21,8 +21,8 @@ of-document-requires c κs = search needs
 enum-known-answer-3 : tie.Need-enum-known-answer-3
 enum-known-answer-3 c = search needs
 
-cast-t9 : tie.Need-cast-t9
-cast-t9 c = search needs
+cast-t10 : tie.Need-cast-t10
+cast-t10 c = search needs
 
 enum-known-answer-4 : tie.Need-enum-known-answer-4
 enum-known-answer-4 c = search needs
@@ -64,7 +64,7 @@ of-running-spec =
     enum-known-answer-2
     of-document-requires
     enum-known-answer-3
-    cast-t9
+    cast-t10
     enum-known-answer-4
     enum-told-2
     enum-known-answer-5

@@ -5,9 +5,9 @@ use mathlib.Core.List.{List, [], _∷_}
 use Prim.Native.Nat.{ℕ}
 use native.Mathlib.Omega.{arith}
 use lib.ListN.{take}
+use Rattle.foundation.specs.Lists.{take-clipped}
 use Rattle.printing.proofs.Runs.{appended-of, appended-both}
 use Rattle.script.specs.Meaning.{spaced}
-use Rattle.lines.proofs.Parts.{take-clipped}
 use borrow.Author.Needs.{needs}
 use Rattle.lines.proofs.appending.append_first.Statement.{statement}
 use Rattle.lines.proofs.appending.append_first.Tie as tie

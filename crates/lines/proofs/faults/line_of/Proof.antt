@@ -7,7 +7,8 @@ use native.Mathlib.Omega.{arith}
 use native.Mathlib.Numerals.{add-one}
 use lib.ListN.{take, length-take}
 use Rattle.lexing.specs.Text.{newlines}
-use Rattle.lines.proofs.Parts.{take-clipped, newlines-most}
+use Rattle.foundation.specs.Lists.{take-clipped}
+use Rattle.lines.proofs.Parts.{newlines-most}
 use borrow.Author.Needs.{needs}
 use Rattle.lines.proofs.faults.line_of.Statement.{statement}
 use Rattle.lines.proofs.faults.line_of.Tie as tie
