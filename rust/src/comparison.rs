@@ -49,7 +49,7 @@ pub fn agree<B: Clone + PartialEq + Debug>(
     if a == b && ours == theirs {
         return Ok(a);
     }
-    Err(Difference { question: question(), left: format!("{a} {ours:?}"), right: format!("{b} {theirs:?}") })
+    Err(Difference { question: question(), left: format!("{a:?} {ours:?}"), right: format!("{b:?} {theirs:?}") })
 }
 
 /// Asks both engines and counts what they answer.

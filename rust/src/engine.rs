@@ -3,26 +3,37 @@
 use crate::contract::Contract;
 use std::fmt;
 
-/// What an operation answers, with its numbers.
+/// What an operation answers, with its numbers; `taken` is how many numbers the document took.
 #[derive(Clone, Copy, Debug, PartialEq, Eq)]
 pub enum Answer {
     Admitted,
-    Judged { result: u64 },
+    Judged { result: u64, taken: usize },
     Pass { count: usize },
     Tree { row: usize },
-    Run { root: usize, used: usize },
+    Run { root: usize, used: usize, taken: usize },
     Written { count: usize },
     Refused { number: u64, place: usize },
 }
 
+impl Answer {
+    /// How many numbers the document took that was judged or run.
+    pub fn taken(self) -> Option<usize> {
+        match self {
+            Answer::Judged { taken, .. } | Answer::Run { taken, .. } => Some(taken),
+            _ => None,
+        }
+    }
+}
+
+/// The words of a script's answer line: a run's leaves out the numbers taken.
 impl fmt::Display for Answer {
     fn fmt(&self, f: &mut fmt::Formatter<'_>) -> fmt::Result {
         match self {
             Answer::Admitted => write!(f, "admitted"),
-            Answer::Judged { result } => write!(f, "judged {result}"),
+            Answer::Judged { result, taken } => write!(f, "judged {result} {taken}"),
             Answer::Pass { count } => write!(f, "pass {count}"),
             Answer::Tree { row } => write!(f, "tree {row}"),
-            Answer::Run { root, used } => write!(f, "run {root} {used}"),
+            Answer::Run { root, used, .. } => write!(f, "run {root} {used}"),
             Answer::Written { count } => write!(f, "written {count}"),
             Answer::Refused { number, place } => write!(f, "refused {number} {place}"),
         }
@@ -31,7 +42,8 @@ impl fmt::Display for Answer {
 
 /// The seam: [`crate::model::Model`] is one engine, the proved library another.
 ///
-/// A buffer is lent with whatever it holds; after a refusal that writes nothing it still holds that.
+/// Judging and running take the document that the numbers begin with. A buffer is lent with whatever it holds; after a refusal
+/// that writes nothing it still holds that.
 pub trait Engine {
     fn admit(&self, contract: &Contract) -> Answer;
     fn judge(&self, contract: &Contract, numbers: &[u16], kind: &mut [u64]) -> Answer;

@@ -2,6 +2,8 @@
 
 use crate::contract::Contract;
 use crate::engine::{Answer, Engine};
+#[cfg(feature = "compare")]
+use std::mem::MaybeUninit;
 use std::thread;
 
 /// What the deepest run needs, and some room: running nests as deep as the document and the expressions are.
@@ -14,6 +16,7 @@ struct Reply {
     answer: usize,
     first: usize,
     second: usize,
+    third: usize,
 }
 
 impl From<Reply> for Answer {
@@ -21,19 +24,39 @@ impl From<Reply> for Answer {
         match reply.answer {
             0 => Answer::Refused { number: reply.first as u64, place: reply.second },
             1 => Answer::Admitted,
-            2 => Answer::Judged { result: reply.first as u64 },
+            2 => Answer::Judged { result: reply.first as u64, taken: reply.second },
             3 => Answer::Pass { count: reply.first },
             4 => Answer::Tree { row: reply.first },
-            5 => Answer::Run { root: reply.first, used: reply.second },
+            5 => Answer::Run { root: reply.first, used: reply.second, taken: reply.third },
             6 => Answer::Written { count: reply.first },
             other => panic!("the library gives no answer {other}"),
         }
     }
 }
 
+/// The reply of an older build, from before it got its third value or after; that value is not read. On x86-64 Linux a reply
+/// with two values and one with three are both written to memory that the caller hands in, so the longer one's room is enough
+/// for either.
+#[cfg(feature = "compare")]
+#[repr(C)]
+struct OldReply {
+    answer: usize,
+    first: usize,
+    second: usize,
+    _third: MaybeUninit<usize>,
+}
+
+/// The numbers taken are not to be read: an older build may not tell them.
+#[cfg(feature = "compare")]
+impl From<OldReply> for Answer {
+    fn from(OldReply { answer, first, second, .. }: OldReply) -> Answer {
+        Answer::from(Reply { answer, first, second, third: 0 })
+    }
+}
+
 /// Declares functions that take a contract first.
 macro_rules! of_contract {
-    ($($name:ident($($rest:ident: $sort:ty),*);)*) => {
+    ($reply:ty; $($name:ident($($rest:ident: $sort:ty),*);)*) => {
         extern "C" {
             $(fn $name(
                 symbols: usize, input_states: usize, output_states: usize,
@@ -45,7 +68,7 @@ macro_rules! of_contract {
                 nodes: *const u16, node_numbers: usize,
                 rules: *const u16, rule_numbers: usize,
                 $($rest: $sort),*
-            ) -> Reply;)*
+            ) -> $reply;)*
         }
     };
 }
@@ -82,10 +105,10 @@ struct Functions {
     write_out: fn(&[u16], usize, &mut [u16]) -> Answer,
 }
 
-/// Declares the functions of a build by their names in its archive, and gathers them.
+/// Declares the functions of a build by their names in its archive and by what they return, and gathers them.
 macro_rules! build {
-    ($build:ident: $admit:ident, $judge:ident, $run:ident, $check:ident, $write_out:ident) => {
-        of_contract! {
+    ($build:ident: $reply:ty; $admit:ident, $judge:ident, $run:ident, $check:ident, $write_out:ident) => {
+        of_contract! { $reply;
             $admit();
             $judge(numbers: *const u16, number_count: usize, kind: *mut u64, kind_words: usize);
             $run(numbers: *const u16, number_count: usize, rows: *mut u16, row_numbers: usize);
@@ -99,7 +122,7 @@ macro_rules! build {
                 row: usize,
                 buffer: *mut u16,
                 buffer_numbers: usize,
-            ) -> Reply;
+            ) -> $reply;
         }
 
         const $build: Functions = Functions {
@@ -122,10 +145,13 @@ macro_rules! build {
     };
 }
 
-build! { PRESENT: goosedawn_admit, goosedawn_judge, goosedawn_run, goosedawn_check, goosedawn_write_out }
+build! { PRESENT: Reply; goosedawn_admit, goosedawn_judge, goosedawn_run, goosedawn_check, goosedawn_write_out }
 
 #[cfg(feature = "compare")]
-build! { OLD: old_goosedawn_admit, old_goosedawn_judge, old_goosedawn_run, old_goosedawn_check, old_goosedawn_write_out }
+build! {
+    OLD: OldReply;
+    old_goosedawn_admit, old_goosedawn_judge, old_goosedawn_run, old_goosedawn_check, old_goosedawn_write_out
+}
 
 /// The proved library; runs are made on a thread with a stack of `run_stack` bytes.
 #[derive(Clone, Copy, Debug)]
@@ -146,7 +172,8 @@ impl Library {
         Library { functions: PRESENT, run_stack }
     }
 
-    /// An older build, which `tests/compare` renames and links beside the present one.
+    /// An older build, which `tests/compare` renames and links beside the present one; what it says of numbers taken is not to
+    /// be read.
     #[cfg(feature = "compare")]
     pub fn old() -> Library {
         Library { functions: OLD, run_stack: RUN_STACK }

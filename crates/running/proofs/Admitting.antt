@@ -1,22 +1,21 @@
 -- Admission, the tests of the buffer and of the document, and what is known of a contract and a document that pass.
 use mathlib.Core.Path.{_≡_, refl, ap, sym, _∙_}
 use mathlib.Core.Bool.{not}
-use mathlib.Core.List.{List, [], _∷_, _++_}
+use mathlib.Core.List.{List, [], _∷_}
 use mathlib.Core.Logic.{inl, inr}
-use Prim.Native.Nat.{ℕ, zero, suc, _%_, _<_, _≤_}
-use native.Mathlib.Nat.{not-suc-le-zero, le-of-suc-le-suc}
+use Prim.Native.Nat.{ℕ, _%_, _≤_}
 use native.Mathlib.Omega.{arith}
 use lib.Dec.{eqb, ltb}
-use lib.ListN.{length, getD}
+use lib.ListN.{length, take}
+use lib.Seq.{length-take-le}
 use borrow.Author.Tests.{ltb-false}
 use types.Run.{OneOf}
 use denote.Enum.Declared.{tagOf}
 use Rattle.foundation.specs.TestLaws.{or-second}
-use Rattle.model.specs.Trees.{Tree, empty, node, Over, preorder}
 use Rattle.model.specs.Tables.{Transformation, Contract}
 use Rattle.model.specs.Answers as model
 use Rattle.model.specs.Answers.{fine, Answer, admitted, refusal, refuseIf, _then_, given}
-use Rattle.model.specs.Documents.{document, documentTree}
+use Rattle.model.specs.Documents.{documentTree, numbersTaken, leadingTree, leadingVerdict}
 use Rattle.model.specs.Rows.{rowCount}
 use Rattle.model.specs.Running.{Ran, rowsWrong, run, closing, runningVerdict, running}
 use Rattle.model.specs.Admission.{admission, admit}
@@ -24,7 +23,7 @@ use Rattle.answers.specs.declared.DocumentFault.{DocumentFault}
 use Rattle.answers.specs.declared.DocumentFault.the-variants as fault
 use Rattle.answers.specs.declared.ContractFault.{ContractFault}
 use Rattle.answers.specs.Numbers.{contractRefusal, documentRefusal}
-use Rattle.model.proofs.Laws.Documents.{Document, document-fine, some-number}
+use Rattle.model.proofs.Laws.Documents.{Document, some-number, Leads, leading-fine}
 use Rattle.model.proofs.Laws.Established.{Between, Established}
 use Rattle.model.proofs.Laws.Answers.{refuse-if-fine, then-fine, given-stopped}
 use Rattle.model.proofs.Laws.Admitted.{established, admit-fine}
@@ -37,38 +36,14 @@ use Rattle.running.specs.Places.{ReadDocument}
 use Rattle.running.specs.Contracts.{Admitted, EndsWith, beforeWork, afterAdmission}
 use Rattle.running.proofs.Verdict.{the-type}
 
--- every number of a list is below S
-abbrev Each : ℕ → List ℕ → Type 0
-Each S [] = Unit {0}
-Each S (x ∷ xs) = (x < S) × Each S xs
-
-each-append : (S : ℕ) (xs ys : List ℕ) → Each S xs → Each S ys → Each S (xs ++ ys)
-each-append S [] ys a b = b
-each-append S (x ∷ xs) ys a b = (a .0, each-append S xs ys (a .1) b)
-
-each-at : (S : ℕ) (xs : List ℕ) (i : ℕ) → Each S xs → i < length xs → getD xs i 0 < S
-each-at S [] i a h = absurd (not-suc-le-zero h)
-each-at S (x ∷ xs) zero a h = a .0
-each-at S (x ∷ xs) (suc i) a h = each-at S xs i (a .1) (le-of-suc-le-suc h)
-
--- so are the numbers of a tree over S
-each-number : (S : ℕ) → 1 ≤ S → (t : Tree) → Over S t → Each S (preorder t)
-unfolding preorder
-each-number S h empty o = (h, tt)
-each-number S h (node s l r) o = (o .1, each-append S (preorder l) (preorder r) (each-number S h l (o .2)) (each-number S h r (o .3)))
-
-module _ (S : ℕ) (numbers : List ℕ) (known : Document S numbers) where
-  read-document : 1 ≤ S → S ≤ 16 → ReadDocument numbers
-  read-document low high =
-      record {
-        some = rw (known .numbers) at (some-number (documentTree numbers));
-        few = known .few;
-        symbol = λ place h.
-            let each : Each S numbers = rw (known .numbers) at (each-number S low (documentTree numbers) (known .over)) in
-            let small = each-at S numbers place each h in
-            omega arith;
-        readable = known .readable;
-      }
+read-document : (S : ℕ) (numbers : List ℕ) → Document S numbers → S ≤ 16 → ReadDocument numbers
+read-document S numbers known high =
+    record {
+      some = rw (known .numbers) at (some-number (documentTree numbers));
+      few = known .few;
+      symbol = λ place h. omega (arith, known .below place h);
+      readable = known .readable;
+    }
 
 -- a verdict that is not fine comes first
 pub refused-first : (one : Verdict) (next : model.Verdict) → OneOf (1 ∷ 2 ∷ []) (tagOf the-type one) → verdictOf one ≡ (verdictOf one then next)
@@ -90,25 +65,31 @@ module _ (T : Transformation) (numbers buffer : List ℕ) (v : Verdict) (said : 
   document-refused fault e =
       let ended : afterAdmission T numbers buffer ≡ record { answer = documentRefusal fault; rows = buffer } =
       rw (afterAdmission, ← said, e)
-      (fault-given fault (λ (a : Answer). record { answer = a; rows = buffer }) (closing (length buffer) (run T (rowCount buffer) (documentTree numbers)))) in
+      (fault-given fault (λ (a : Answer). record { answer = a; rows = buffer }) _) in
       record { answered = sym (ap (λ (r : Ran). r .answer) ended); left = sym (ap (λ (r : Ran). r .rows) ended) }
 
-  -- where nothing is refused, the buffer is small and the numbers are a document
-  module _ (passed : v ≡ verdict.Fine) where
-    both-fine : (refuseIf (rowsWrong (length buffer)) 9 0 ≡ fine) × (document (T .symbols) numbers ≡ fine)
+  -- where nothing is refused, the buffer is small and the numbers taken are a document
+  module _ (passed : v ≡ verdict.Fine) (taken : ℕ) (same : taken ≡ numbersTaken (T .symbols) numbers) where
+    both-fine : (refuseIf (rowsWrong (length buffer)) 9 0 ≡ fine) × (leadingVerdict (T .symbols) numbers ≡ fine)
     both-fine = then-fine _ _ (sym said ∙ ap verdictOf passed)
 
     pub rows-few : length buffer ≤ 12288
     rows-few = ltb-false 12288 (length buffer) (or-second (not (eqb (length buffer % 3) 0)) (ltb 12288 (length buffer)) (refuse-if-fine _ 9 0 (both-fine .0)))
 
-    pub read : 1 ≤ T .symbols → T .symbols ≤ 16 → ReadDocument numbers
-    read low high = read-document (T .symbols) numbers (document-fine (T .symbols) numbers (both-fine .1)) low high
+    leads : Leads (T .symbols) taken numbers
+    leads = rw same (leading-fine (T .symbols) numbers (both-fine .1))
+
+    pub numbers-taken : length (take taken numbers) ≡ taken
+    numbers-taken = length-take-le taken numbers (leads .within)
+
+    pub taken-read : T .symbols ≤ 16 → ReadDocument (take taken numbers)
+    taken-read high = read-document (T .symbols) (take taken numbers) (leads .document) high
 
     pub document-run : {answer : Answer} {o : List ℕ}
-        → EndsWith (closing (length buffer) (run T (rowCount buffer) (documentTree numbers))) answer o
+        → EndsWith (closing (length buffer) (length (take taken numbers)) (run T (rowCount buffer) (documentTree (take taken numbers)))) answer o
         → EndsWith (afterAdmission T numbers buffer) answer o
-    unfolding afterAdmission given
-    document-run ends = rw (afterAdmission, ← said, passed) ends
+    unfolding afterAdmission given leadingTree
+    document-run ends = rw (afterAdmission, ← said, passed, ← same) (rw numbers-taken at ends)
 
 -- The whole operation
 

@@ -28,8 +28,8 @@ use Rattle.running.proofs.End.{the-type}
 use Rattle.running.specs.Places.{ReadDocument}
 use Rattle.running.specs.Contracts.{Admitted, CallableIn, Calls, Closes, transformationOf}
 
-module _ (n free : ℕ) (before : Tally) where
-  closed-answer : (x : Outcome) (o : List ℕ) → closing n (stepOf free x o) .answer ≡ endAnswer free (endedOf before x .end) (endedOf before x .tally)
+module _ (n taken free : ℕ) (before : Tally) where
+  closed-answer : (x : Outcome) (o : List ℕ) → closing n taken (stepOf free x o) .answer ≡ endAnswer free taken (endedOf before x .end) (endedOf before x .tally)
   unfolding closing
   closed-answer (Made row tally) o = refl
   closed-answer (NoRule procedure) o = refl
@@ -40,7 +40,7 @@ module _ (n free : ℕ) (before : Tally) where
   unfolding zeroFilled
   none-kept o = let e : n - 0 ≡ n = omega arith in rw e
 
-  closed-rows : (x : Outcome) (o : List ℕ) → closing n (stepOf free x o) .rows ≡ zeroFilled n (take (numbersKept (endedOf before x .end) (endedOf before x .tally)) o)
+  closed-rows : (x : Outcome) (o : List ℕ) → closing n taken (stepOf free x o) .rows ≡ zeroFilled n (take (numbersKept (endedOf before x .end) (endedOf before x .tally)) o)
   unfolding closing
   closed-rows (Made row tally) o = refl
   closed-rows (NoRule procedure) o = none-kept o
@@ -74,12 +74,12 @@ module _ (counts nodes rules numbers buffer : List ℕ) (x : Outcome) (left : Li
   unfolding run
   ran-to S = rw (document-tree numbers) (called S free [] refl (record { one = refl; two = refl }))
 
-  pub closes : (r : RunningAnswer) (o : List ℕ) → runningAnswer r ≡ endAnswer free (work .end) (work .tally) → o ≡ zeroFilled (length buffer) (take (numbersKept (work .end) (work .tally)) left)
+  pub closes : (r : RunningAnswer) (o : List ℕ) → runningAnswer r ≡ endAnswer free (length numbers) (work .end) (work .tally) → o ≡ zeroFilled (length buffer) (take (numbersKept (work .end) (work .tally)) left)
       → Closes counts nodes rules numbers buffer r o
   closes r o answered kept S =
       record {
-        answered = answered ∙ sym (closed-answer (length buffer) free _ x left) ∙ ap (λ (s : Step ℕ). closing (length buffer) s .answer) (sym (ran-to S));
-        left = kept ∙ sym (closed-rows (length buffer) free _ x left) ∙ ap (λ (s : Step ℕ). closing (length buffer) s .rows) (sym (ran-to S));
+        answered = answered ∙ sym (closed-answer (length buffer) (length numbers) free _ x left) ∙ ap (λ (s : Step ℕ). closing (length buffer) (length numbers) s .answer) (sym (ran-to S));
+        left = kept ∙ sym (closed-rows (length buffer) (length numbers) free _ x left) ∙ ap (λ (s : Step ℕ). closing (length buffer) (length numbers) s .rows) (sym (ran-to S));
       }
 
 -- the rules of an admitted transformation have room in a plan

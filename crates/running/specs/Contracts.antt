@@ -13,7 +13,7 @@ use Rattle.model.specs.Tables.{Transformation, Node, nodeAt, nodeCount, ruleAt,
 use Rattle.model.specs.Expressions.{Child, childOf, expression, holdsCall}
 use Rattle.model.specs.Facts.{onSide}
 use Rattle.model.specs.Answers.{Verdict, Answer, refusal, refuseIf, _then_, given}
-use Rattle.model.specs.Documents.{document, documentTree}
+use Rattle.model.specs.Documents.{documentTree, numbersTaken, leadingTree, leadingVerdict}
 use Rattle.model.specs.Running.{Work, Step, Runs, noRuns, Ran, rowsWrong, addRow, evaluate, runOn, run, closing}
 use Rattle.answers.specs.declared.RunningAnswer.{RunningAnswer}
 use Rattle.answers.specs.Numbers.{runningAnswer}
@@ -144,17 +144,18 @@ pub record EndsWith (ran : Ran) (answer : Answer) (buffer : List ℕ) : Type 0 w
   pub answered : answer ≡ ran .answer
   pub left : buffer ≡ ran .rows
 
--- the promise of the whole work on a document
+-- the promise of the whole work on a document, which is all of the numbers
 abbrev pub Closes : (counts nodes rules numbers buffer : List ℕ) → RunningAnswer → List ℕ → Type 0
 Closes counts nodes rules numbers buffer r closed =
-    (S : ℕ) → EndsWith (closing (length buffer) (run (transformationOf counts nodes rules S) (rowCount buffer) (documentTree numbers))) (runningAnswer r) closed
+    (S : ℕ)
+    → EndsWith (closing (length buffer) (length numbers) (run (transformationOf counts nodes rules S) (rowCount buffer) (documentTree numbers))) (runningAnswer r) closed
 
 -- what is said before the work: "9, the row buffer's length is no multiple of three or above 12,288 (place 0); 11; 12"
 abbrev pub beforeWork : ℕ → List ℕ → (lent : ℕ) → Verdict
-beforeWork S numbers lent = refuseIf (rowsWrong lent) 9 0 then document S numbers
+beforeWork S numbers lent = refuseIf (rowsWrong lent) 9 0 then leadingVerdict S numbers
 
 -- what follows where a contract is admitted; "these write nothing"
 unfoldable pub afterAdmission : Transformation → (numbers buffer : List ℕ) → Ran
 afterAdmission T numbers buffer =
     given (beforeWork (T .symbols) numbers (length buffer)) (λ number place. record { answer = refusal number place; rows = buffer })
-    (closing (length buffer) (run T (rowCount buffer) (documentTree numbers)))
+    (closing (length buffer) (numbersTaken (T .symbols) numbers) (run T (rowCount buffer) (leadingTree (T .symbols) numbers)))

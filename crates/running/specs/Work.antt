@@ -64,12 +64,12 @@ numbersKept (NoRuleEnd procedure) tally = 0
 numbersKept NoRowEnd tally = 0
 numbersKept TooManyCallsEnd tally = 0
 
--- the answer, where so many rows are free at first
-abbrev pub endAnswer : ℕ → End → Tally → Answer
-endAnswer free (Root root) tally = ran root (tally .used)
-endAnswer free (NoRuleEnd procedure) tally = refusal 13 (procedure .0)
-endAnswer free NoRowEnd tally = refusal 14 free
-endAnswer free TooManyCallsEnd tally = refusal 15 mostCalls
+-- the answer, where so many rows are free at first and the document took so many numbers
+abbrev pub endAnswer : (free taken : ℕ) → End → Tally → Answer
+endAnswer free taken (Root root) tally = ran root (tally .used) taken
+endAnswer free taken (NoRuleEnd procedure) tally = refusal 13 (procedure .0)
+endAnswer free taken NoRowEnd tally = refusal 14 free
+endAnswer free taken TooManyCallsEnd tally = refusal 15 mostCalls
 
 -- what is said before the work
 abbrev pub verdictOf : Verdict → model.Verdict

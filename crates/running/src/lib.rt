@@ -1,4 +1,5 @@
-// Running a transformation on a document: document 01's order of work, its tally and its rows.
+// Running a transformation on the document that numbers begin with: document 01's order of work, its tally and its rows, and how many
+// numbers the document took.
 //
 // Calling a procedure evaluates its right side, and evaluating calls procedures on the children: the height of the tree falls
 // at each call, the node number at each evaluation. What the work reads stands in one plan, so that a step of it is small. The
@@ -11,13 +12,13 @@ ghost use Rattle.answers.specs.Numbers.{runningAnswer};
 ghost use Rattle.model.specs.Rows.{rowCount};
 ghost use Rattle.model.specs.Tables.{contract};
 ghost use Rattle.model.specs.Answers.{refuseIf, _then_};
-ghost use Rattle.model.specs.Documents.{document};
 ghost use Rattle.model.specs.Running.{addRow, rowsWrong, running};
 ghost use Rattle.model.proofs.Laws.Established.{Between};
+ghost use Rattle.reading.specs.Answers.{readingVerdict};
 ghost use Rattle.tables.specs.Tuples.{nodeOf};
 ghost use Rattle.running.specs.Work.{workOf, stepOf, endedOf, parameterRow, planOperands, planChild, numbersKept, endAnswer, verdictOf};
 ghost use Rattle.running.specs.Places.{ReadDocument};
-ghost use Rattle.running.specs.Contracts.{transformationOf, EndsWith, beforeWork, afterAdmission, Admitted, Closes, EvaluableIn, ApplicableIn, CallableIn, EvaluatesIn, AppliesIn, CallsIn, StartsIn};
+ghost use Rattle.running.specs.Contracts.{transformationOf, EndsWith, afterAdmission, Admitted, Closes, EvaluableIn, ApplicableIn, CallableIn, EvaluatesIn, AppliesIn, CallsIn, StartsIn};
 use admission::admit;
 use answers::AdmissionAnswer;
 use answers::DocumentFault;
@@ -29,9 +30,10 @@ use plans::node_of;
 use plans::plan;
 use plans::side_of;
 use plans::symbol_of;
-use reading::DocumentAnswer;
-use reading::document;
+use reading::Reading;
 use reading::fill_ends;
+use reading::read;
+use reading::taken_of;
 use tables::Node;
 use tables::Procedure;
 use tables::Symbol;
@@ -320,19 +322,19 @@ fn numbers_kept(end: End, tally: Tally) -> usize
     3 * wide(tally.used)
 }
 
-// The answer to the work's end, where so many rows are free at first.
-fn answer_of(end: End, tally: Tally, free: usize) -> RunningAnswer
-    ensures { λ r. ⌜ runningAnswer r ≡ endAnswer free end tally ⌝ }
+// The answer to the work's end, where so many rows are free at first and the document took so many numbers.
+fn answer_of(end: End, tally: Tally, free: usize, taken: usize) -> RunningAnswer
+    ensures { λ r. ⌜ runningAnswer r ≡ endAnswer free taken end tally ⌝ }
 {
     match end {
-        End::Root(root) => RunningAnswer::Ran(wide(root), wide(tally.used)),
+        End::Root(root) => RunningAnswer::Ran(wide(root), wide(tally.used), taken),
         End::NoRule(procedure) => RunningAnswer::NoRule(procedure),
         End::NoRow => RunningAnswer::NoRow(free),
         End::TooManyCalls => RunningAnswer::TooManyCalls,
     }
 }
 
-// Runs procedure 0 on a document, with room for where the trees of its places end.
+// Runs procedure 0 on a document, which is all of the numbers, with room for where the trees of its places end.
 fn run_with(
     counts: &[u16],
     nodes: &[u16],
@@ -350,7 +352,7 @@ fn run_with(
     let end = work.end;
     let tally = work.tally;
     clear_from(rows, numbers_kept(end, tally));
-    answer_of(end, tally, rows.len() / 3)
+    answer_of(end, tally, rows.len() / 3, numbers.len())
 }
 
 // Runs procedure 0 on a document. There is room for the ends of sixteen trees or of as many as there may be.
@@ -382,13 +384,13 @@ fn buffer_verdict(lent: usize) -> Verdict
     Verdict::Fine
 }
 
-// Refusals 11 and 12: the numbers are no document.
-fn document_verdict(symbols: usize, numbers: &[u16]) -> Verdict
-    ensures { λ r. ⌜ verdictOf r ≡ document symbols (now (numbers .entry)) ⌝ }
+// Refusals 11 and 12: the numbers begin with no document.
+fn document_verdict(reading: Reading) -> Verdict
+    ensures { λ r. ⌜ verdictOf r ≡ readingVerdict reading ⌝ }
 {
-    match document(symbols, numbers) {
-        DocumentAnswer::Whole => Verdict::Fine,
-        DocumentAnswer::Refused(fault) => Verdict::Document(fault),
+    match reading {
+        Reading::Takes(_) => Verdict::Fine,
+        Reading::Refused(fault) => Verdict::Document(fault),
     }
 }
 
@@ -403,11 +405,11 @@ fn first_refusal(one: Verdict, next: Verdict) -> Verdict
 }
 
 // What is said before the work: the buffer's refusal comes before the document's.
-fn verdict_before(symbols: usize, numbers: &[u16], lent: usize) -> Verdict
-    ensures { λ r. ⌜ verdictOf r ≡ beforeWork symbols (now (numbers .entry)) lent ⌝ }
+fn verdict_before(reading: Reading, lent: usize) -> Verdict
+    ensures { λ r. ⌜ verdictOf r ≡ (refuseIf (rowsWrong lent) 9 0 then readingVerdict reading) ⌝ }
 {
     let buffer = buffer_verdict(lent);
-    let text = document_verdict(symbols, numbers);
+    let text = document_verdict(reading);
     first_refusal(buffer, text)
 }
 
@@ -424,14 +426,16 @@ fn run_admitted(
     requires { ⌜ Between 1 16 symbols ⌝ }
     ensures { λ r. ⌜ EndsWith (afterAdmission (transformationOf (now (counts .entry)) (now (nodes .entry)) (now (rules .entry)) symbols) (now (numbers .entry)) (now (rows .entry))) (runningAnswer r) (now (rows .exit)) ⌝ }
 {
-    match verdict_before(symbols, numbers, rows.len()) {
+    let reading = read(symbols, numbers);
+    let taken = taken_of(reading);
+    match verdict_before(reading, rows.len()) {
         Verdict::Buffer => RunningAnswer::Buffer,
         Verdict::Document(fault) => RunningAnswer::Document(fault),
-        Verdict::Fine => run_document(counts, nodes, rules, numbers, rows),
+        Verdict::Fine => run_document(counts, nodes, rules, &numbers[..taken], rows),
     }
 }
 
-// Runs a contract's transformation on a document: the answer, with the rows in the buffer.
+// Runs a contract's transformation on the document that the numbers begin with: the answer, with the rows in the buffer.
 pub fn run(
     symbols: usize,
     input_states: usize,

@@ -1,6 +1,6 @@
 //! Facts and kinds, and judging a document by its kind.
 
-use super::documents::document;
+use super::documents::leading_document;
 use super::{admission, Refusal};
 use crate::contract::{Contract, Node};
 use crate::engine::Answer;
@@ -224,20 +224,20 @@ fn reached(contract: &Contract, rules: &[(usize, usize)]) -> Vec<(usize, Node)> 
     (0..marked.len()).filter(|&place| marked[place]).map(|place| (place, contract.node(place))).collect()
 }
 
-/// Judging a document.
+/// Judging the document that the numbers begin with.
 pub fn judge(contract: &Contract, numbers: &[u16], buffer: &mut [u64]) -> Result<Answer, Refusal> {
     admission::admission(contract)?;
     if buffer.len() != 5 {
         return Err((9, 0));
     }
-    document(contract.symbols, numbers)?;
+    let document = leading_document(contract.symbols, numbers)?;
     let kinds = Kinds::new(contract);
-    let kind = kinds.document(numbers);
+    let kind = kinds.document(document);
     buffer.copy_from_slice(&kind);
     let result = match (kinds.takes(&kind), kinds.breaks(&kind)) {
         (false, _) => 0,
         (true, false) => 1,
         (true, true) => 2,
     };
-    Ok(Answer::Judged { result })
+    Ok(Answer::Judged { result, taken: document.len() })
 }

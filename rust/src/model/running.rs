@@ -1,6 +1,6 @@
 //! Running a transformation: first rules only, in a fixed order of work.
 
-use super::documents::{document, right_children};
+use super::documents::{leading_document, right_children};
 use super::{admission, Refusal};
 use crate::contract::{Contract, Node};
 use crate::engine::Answer;
@@ -18,7 +18,7 @@ const STACK: usize = 256 << 20;
 
 struct Runner<'a> {
     contract: &'a Contract,
-    numbers: &'a [u16],
+    document: &'a [u16],
     right: Vec<usize>,
     /// The node of the first rule for a procedure and a symbol.
     first_rules: HashMap<(usize, usize), usize>,
@@ -34,7 +34,7 @@ impl Runner<'_> {
             return Err((15, MOST_CALLS));
         }
         self.calls += 1;
-        match self.first_rules.get(&(procedure, usize::from(self.numbers[place]))) {
+        match self.first_rules.get(&(procedure, usize::from(self.document[place]))) {
             Some(&node) => self.evaluate(node, place, parameters),
             None => Err((13, procedure)),
         }
@@ -71,21 +71,21 @@ impl Runner<'_> {
     }
 }
 
-/// Running.
+/// Running on the document that the numbers begin with.
 pub fn run(contract: &Contract, numbers: &[u16], buffer: &mut [u16]) -> Result<Answer, Refusal> {
     admission::admission(contract)?;
     if !buffer.len().is_multiple_of(3) || buffer.len() > MOST_ROW_NUMBERS {
         return Err((9, 0));
     }
-    document(contract.symbols, numbers)?;
+    let document = leading_document(contract.symbols, numbers)?;
     let mut first_rules = HashMap::new();
     for [procedure, symbol, node] in (0..contract.rule_count()).map(|rule| contract.rule(rule)) {
         first_rules.entry((procedure, symbol)).or_insert(node);
     }
     let mut runner = Runner {
         contract,
-        numbers,
-        right: right_children(numbers),
+        document,
+        right: right_children(document),
         first_rules,
         rows: Vec::new(),
         free: buffer.len() / 3,
@@ -95,7 +95,7 @@ pub fn run(contract: &Contract, numbers: &[u16], buffer: &mut [u16]) -> Result<A
     buffer.fill(0);
     let root = usize::from(root?);
     buffer[..runner.rows.len()].copy_from_slice(&runner.rows);
-    Ok(Answer::Run { root, used: runner.rows.len() / 3 })
+    Ok(Answer::Run { root, used: runner.rows.len() / 3, taken: document.len() })
 }
 
 fn on_large_stack<T: Send>(work: impl FnOnce() -> T + Send) -> T {

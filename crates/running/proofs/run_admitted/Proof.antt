@@ -1,12 +1,33 @@
 -- `running::run_admitted` meets its contract: what follows from each verdict before the work.
-use Rattle.running.specs.Contracts.{transformationOf}
-use Rattle.running.proofs.Admitting.{buffer-refused, document-refused, rows-few, read, document-run}
+use mathlib.Core.Path.{_≡_, ap, sym, _∙_}
+use lib.ListN.{length}
 use borrow.Author.Needs.{needs}
+use Rattle.model.specs.Answers.{Verdict, refuseIf, _then_}
+use Rattle.model.specs.Running.{rowsWrong}
+use Rattle.model.specs.Tables.{Transformation}
+use Rattle.running.specs.Work.{verdictOf}
+use Rattle.running.specs.Contracts.{transformationOf, beforeWork}
+use Rattle.running.proofs.Admitting.{buffer-refused, document-refused, rows-few, numbers-taken, taken-read, document-run}
 use Rattle.running.proofs.run_admitted.Statement.{statement}
 use Rattle.running.proofs.run_admitted.Tie as tie
 
+read-requires : tie.Need-read-requires
+read-requires c κs = search needs
+
+taken-of-requires : tie.Need-taken-of-requires
+taken-of-requires c κs = search needs
+
 verdict-before-requires : tie.Need-verdict-before-requires
 verdict-before-requires c κs = search needs
+
+-- the transformation that is handed in
+abbrev handed : tie.After-verdict-before → Transformation
+handed c = let s = c .before .before .before .before .before .before .before .before .args in transformationOf (s .counts .now) (s .nodes .now) (s .rules .now) (s .symbols)
+
+-- what is said of the buffer and of the numbers
+said : (c : tie.After-verdict-before)
+    → verdictOf (c .verdict-before .result) ≡ beforeWork (c .before .before .before .before .before .before .before .before .args .symbols) (c .before .before .before .before .before .before .before .before .args .numbers .now) (length (c .before .before .before .before .before .before .before .before .args .rows .now))
+said c = c .verdict-before .ensures ∙ ap (λ (v : Verdict). refuseIf (rowsWrong (length (c .before .before .before .before .before .before .before .before .args .rows .now))) 9 0 then v) (c .before .before .read .ensures .0)
 
 enum-told : tie.Need-enum-told
 enum-told c = search needs
@@ -17,37 +38,44 @@ enum-known-fault c = search needs
 enum-told-2 : tie.Need-enum-told-2
 enum-told-2 c = search needs
 
+slice-aggregate-run-document : tie.Need-slice-aggregate-run-document
+slice-aggregate-run-document c =
+    sym (numbers-taken (handed (c .before .before .before)) (c .before .before .before .before .before .before .before .before .before .before .before .args .numbers .now) (c .before .before .before .before .before .before .before .before .before .before .before .args .rows .now) _ (said (c .before .before .before)) (c .before .enum-told2 .given .1) _ (c .before .before .before .before .taken-of .ensures ∙ c .before .before .before .before .before .read .ensures .1))
+
 run-document-requires : tie.Need-run-document-requires
 run-document-requires c κs =
-    let s = c .before .before .before .before .before .before .before .before .before .args in
-    (c .before .before .before .before .before .before .before .before .before .pre .0, read (transformationOf (s .counts .now) (s .nodes .now) (s .rules .now) (s .symbols)) (s .numbers .now) (s .rows .now) (c .before .before .before .verdict-before .result) (c .before .before .before .verdict-before .ensures) (c .before .enum-told2 .given .1) (c .before .before .before .before .before .before .before .before .before .pre .1 .least≤) (c .before .before .before .before .before .before .before .before .before .pre .1 .≤most), rows-few (transformationOf (s .counts .now) (s .nodes .now) (s .rules .now) (s .symbols)) (s .numbers .now) (s .rows .now) (c .before .before .before .verdict-before .result) (c .before .before .before .verdict-before .ensures) (c .before .enum-told2 .given .1))
+    let T = handed (c .before .before .before .before) in
+    let numbers = c .before .before .before .before .before .before .before .before .before .before .before .before .args .numbers .now in
+    let rows = c .before .before .before .before .before .before .before .before .before .before .before .before .args .rows .now in
+    let fine = c .before .before .enum-told2 .given .1 in
+    let taken = c .before .before .before .before .before .taken-of .ensures ∙ c .before .before .before .before .before .before .read .ensures .1 in
+    (c .before .before .before .before .before .before .before .before .before .before .before .before .pre .0, taken-read T numbers rows _ (said (c .before .before .before .before)) fine _ taken (c .before .before .before .before .before .before .before .before .before .before .before .before .pre .1 .≤most), rows-few T numbers rows _ (said (c .before .before .before .before)) fine _ taken)
 
 returns : tie.Need-returns
-returns c =
-    let s = c .before .before .before .before .before .before .before .before .args in
-    buffer-refused (transformationOf (s .counts .now) (s .nodes .now) (s .rules .now) (s .symbols)) (s .numbers .now) (s .rows .now) (c .before .before .verdict-before .result) (c .before .before .verdict-before .ensures) (c .enum-told .given .1)
+returns c = buffer-refused (handed (c .before .before)) (c .before .before .before .before .before .before .before .before .before .before .args .numbers .now) (c .before .before .before .before .before .before .before .before .before .before .args .rows .now) _ (said (c .before .before)) (c .enum-told .given .1)
 
 returns-2 : tie.Need-returns-2
 returns-2 c =
-    let s = c .before .before .before .before .before .before .before .before .before .args in
-    document-refused (transformationOf (s .counts .now) (s .nodes .now) (s .rules .now) (s .symbols)) (s .numbers .now) (s .rows .now) (c .before .before .before .verdict-before .result) (c .before .before .before .verdict-before .ensures) (c .before .fault .given .0 .0) (c .before .fault .given .1)
+    document-refused (handed (c .before .before .before)) (c .before .before .before .before .before .before .before .before .before .before .before .args .numbers .now) (c .before .before .before .before .before .before .before .before .before .before .before .args .rows .now) _ (said (c .before .before .before)) (c .before .fault .given .0 .0) (c .before .fault .given .1)
 
 same-length : tie.Need-same-length
 same-length c = search needs
 
 returns-3 : tie.Need-returns-3
 returns-3 c =
-    let s = c .before .before .before .before .before .before .before .before .before .before .before .before .args in
-    document-run (transformationOf (s .counts .now) (s .nodes .now) (s .rules .now) (s .symbols)) (s .numbers .now) (s .rows .now) (c .before .before .before .before .before .before .verdict-before .result) (c .before .before .before .before .before .before .verdict-before .ensures) (c .before .before .before .before .enum-told2 .given .1) (c .before .before .run-document .ensures (s .symbols))
+    document-run (handed (c .before .before .before .before .before .before .before)) (c .before .before .before .before .before .before .before .before .before .before .before .before .before .before .before .args .numbers .now) (c .before .before .before .before .before .before .before .before .before .before .before .before .before .before .before .args .rows .now) _ (said (c .before .before .before .before .before .before .before)) (c .before .before .before .before .before .enum-told2 .given .1) _ (c .before .before .before .before .before .before .before .before .taken-of .ensures ∙ c .before .before .before .before .before .before .before .before .before .read .ensures .1) (c .before .before .run-document .ensures (c .before .before .before .before .before .before .before .before .before .before .before .before .before .before .before .args .symbols))
 
 pub run-admitted-spec : {M : Type 1} → statement M
 run-admitted-spec =
     tie.close
     (tie.spec
+    read-requires
+    taken-of-requires
     verdict-before-requires
     enum-told
     enum-known-fault
     enum-told-2
+    slice-aggregate-run-document
     run-document-requires
     returns
     returns-2

@@ -54,7 +54,7 @@ returns c =
     let same₂ : length (c .before .before .before .clear-from .last .0) ≡ length (s .rows .now) = c .before .before .before .clear-from .kept .0 ∙ same in
     closes (s .counts .now) (s .nodes .now) (s .rules .now) (s .numbers .now) (s .rows .now) (starts .outcome) left (starts .calls asked)
     (c .answer-of .result) (c .before .before .before .clear-from .last .0)
-    (c .answer-of .ensures ∙ ap₂ (λ (n : ℕ) (w : Ended). endAnswer (n / 3) (w .end) (w .tally)) same₂ (starts .ends))
+    (c .answer-of .ensures ∙ ap₂ (λ (n : ℕ) (w : Ended). endAnswer (n / 3) (length (s .numbers .now)) (w .end) (w .tally)) same₂ (starts .ends))
     (c .before .before .before .clear-from .ensures ∙ ap₂ (λ (n m : ℕ). zeroFilled n (take m left)) same (c .before .before .before .before .numbers-kept .ensures ∙ ap (λ (w : Ended). numbersKept (w .end) (w .tally)) (starts .ends)))
 
 pub run-with-spec : {M : Type 1} → statement M
