@@ -17,7 +17,10 @@
  * Sizes: symbols 1 to 16, input states 1 to 32, output states 1 to 4, procedures 1 to 16, at most 512 input rows, 256
  * nodes and 256 rules.
  *
- * A document is its symbols in preorder, 1 to 1023 numbers: symbol 0 stands alone, any other has two trees after it. */
+ * A document is its symbols in preorder, 1 to 1023 numbers: symbol 0 stands alone, any other has two trees after it.
+ * Judging and running take the document that the numbers begin with, and tell how many numbers it took. What stands
+ * behind it is not looked at and may be anything, such as the next document. To go on there, hand in the pointer moved
+ * on by the numbers taken and the length less by as many, as examples/c/collector.c does. A refusal takes no number. */
 #ifndef GOOSEDAWN_H
 #define GOOSEDAWN_H
 
@@ -28,14 +31,14 @@
 extern "C" {
 #endif
 
-/* Which answer a reply is. What its two values hold stands beside it; a value that is not named is 0. */
+/* Which answer a reply is. What its three values hold stands beside it; a value that is not named is 0. */
 enum {
     GOOSEDAWN_REFUSED = 0,  /* first: the refusal's number; second: its place */
     GOOSEDAWN_ADMITTED = 1,
-    GOOSEDAWN_JUDGED = 2,   /* first: the result */
+    GOOSEDAWN_JUDGED = 2,   /* first: the result; second: how many numbers the document took */
     GOOSEDAWN_PASS = 3,     /* first: how many kinds there are */
     GOOSEDAWN_TREE = 4,     /* first: the row of a tree that breaks the contract */
-    GOOSEDAWN_RAN = 5,      /* first: the root row; second: how many rows are used */
+    GOOSEDAWN_RAN = 5,      /* first: the root row; second: the rows used; third: how many numbers the document took */
     GOOSEDAWN_WRITTEN = 6   /* first: how many numbers are written */
 };
 
@@ -43,6 +46,7 @@ typedef struct {
     size_t answer;
     size_t first;
     size_t second;
+    size_t third;
 } goosedawn_reply;
 
 /* The parameters of a contract, in the order in which each function takes them. */
@@ -74,10 +78,10 @@ typedef struct {
  *   8  over 256 facts: how many there are */
 goosedawn_reply goosedawn_admit(GOOSEDAWN_CONTRACT);
 
-/* Judges a document by a contract. The refusals of goosedawn_admit, then
+/* Judges the document that the numbers begin with by a contract. The refusals of goosedawn_admit, then
  *   9   the kind buffer is not five words: 0
- *   11  over 1023 numbers: how many there are
- *   12  the first number that is no symbol or stands after the tree, or the length if the tree has not ended
+ *   11  the first 1023 numbers are symbols, the tree does not end in them, and more follow: how many there are in all
+ *   12  the first number of the tree that is no symbol, or the length if the numbers end before the tree does
  * which write nothing. Otherwise JUDGED, and the kind of the document is written: word 0 has a bit for each input state
  * that it reaches, words 1 to 4 a bit for each fact. The result is 0, not of the input type; 1, of the input type with
  * no output outside the output type; 2, of the input type with such an output. */
@@ -96,8 +100,8 @@ goosedawn_reply goosedawn_judge(GOOSEDAWN_CONTRACT, const uint16_t *numbers, siz
 goosedawn_reply goosedawn_check(GOOSEDAWN_CONTRACT, size_t limit, uint16_t *rows, size_t rows_length, uint64_t *words,
                                 size_t words_length);
 
-/* Runs a contract's transformation on a document, taking for each call the first rule listed. The refusals of
- * goosedawn_admit, then
+/* Runs a contract's transformation on the document that the numbers begin with, taking for each call the first rule
+ * listed. The refusals of goosedawn_admit, then
  *   9   the row buffer's length is no multiple of three or above 12288: 0
  *   11, 12  as in judging
  * which write nothing; then, whichever comes first in the order of work, with the row buffer all 0,

@@ -42,8 +42,8 @@ impl fmt::Display for Answer {
 
 /// The seam: [`crate::model::Model`] is one engine, the proved library another.
 ///
-/// Judging and running take the document that the numbers begin with. A buffer is lent with whatever it holds; after a refusal
-/// that writes nothing it still holds that.
+/// Judging and running take the document that the numbers begin with. A buffer is lent with whatever it holds; after a
+/// refusal that writes nothing it still holds that.
 pub trait Engine {
     fn admit(&self, contract: &Contract) -> Answer;
     fn judge(&self, contract: &Contract, numbers: &[u16], kind: &mut [u64]) -> Answer;

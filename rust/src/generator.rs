@@ -1,6 +1,7 @@
 //! Random questions from a seed: the same seed gives the same questions everywhere.
 
 use crate::contract::Contract;
+use crate::model::documents::MOST_NUMBERS;
 
 /// A small generator of random numbers (xorshift with a multiplication).
 #[derive(Clone, Debug)]
@@ -219,21 +220,66 @@ pub fn document(random: &mut Random, symbols: usize, size: usize) -> Vec<u16> {
     numbers
 }
 
-/// Any numbers: a document, or one that is cut, lengthened or changed, or too long.
-pub fn numbers(random: &mut Random, symbols: usize) -> Vec<u16> {
-    let size = if random.once_in(8) { random.within(0, 520) } else { random.within(0, 12) };
+fn small_document(random: &mut Random, symbols: usize) -> Vec<u16> {
+    let size = random.within(0, 12);
+    document(random, symbols, size)
+}
+
+fn no_symbol(random: &mut Random, symbols: usize) -> u16 {
+    [symbols, symbols + 1, 65_535][random.below(3)] as u16
+}
+
+/// What may stand behind a document: nothing, further documents, any numbers, or very many of one.
+fn behind(random: &mut Random, symbols: usize) -> Vec<u16> {
+    match random.below(6) {
+        0 | 1 => Vec::new(),
+        2 | 3 => (0..random.within(1, 3)).flat_map(|_| small_document(random, symbols)).collect(),
+        4 => (0..random.within(1, 4)).map(|_| random.draw() as u16).collect(),
+        _ => {
+            let number = [0, 1, no_symbol(random, symbols)][random.below(3)];
+            vec![number; random.within(MOST_NUMBERS - 20, MOST_NUMBERS + 20)]
+        }
+    }
+}
+
+/// About as many numbers as a document may have, or more: the tree ends shortly before that many, with them or behind
+/// them, and sometimes a number near there is no symbol.
+fn about_the_most(random: &mut Random, symbols: usize) -> Vec<u16> {
+    let size = random.within(MOST_NUMBERS / 2 - 1, MOST_NUMBERS / 2 + 1);
+    let mut numbers = document(random, symbols, size);
+    numbers.extend(behind(random, symbols));
+    if random.once_in(2) {
+        numbers.truncate(random.within(MOST_NUMBERS - 1, MOST_NUMBERS + 2));
+    }
+    if random.once_in(3) {
+        let place = random.within(MOST_NUMBERS - 2, MOST_NUMBERS + 1).min(numbers.len() - 1);
+        numbers[place] = no_symbol(random, symbols);
+    }
+    numbers
+}
+
+/// A document, or one that is cut or changed.
+fn document_or_damaged(random: &mut Random, symbols: usize) -> Vec<u16> {
+    let size = if random.once_in(8) { random.within(0, MOST_NUMBERS / 2) } else { random.within(0, 12) };
     let mut numbers = document(random, symbols, size);
     match random.below(8) {
-        0 => {
-            numbers.pop();
-        }
-        1 => numbers.push(0),
-        2 => {
+        0 => numbers.truncate(random.below(numbers.len())),
+        1 => {
             let place = random.below(numbers.len());
             numbers[place] = random.below(symbols.max(1) + 2) as u16;
         }
         _ => {}
     }
+    numbers
+}
+
+/// Any numbers: a document, whole or not, and what stands behind it; now and then about as many as a document may have.
+pub fn numbers(random: &mut Random, symbols: usize) -> Vec<u16> {
+    if random.once_in(6) {
+        return about_the_most(random, symbols);
+    }
+    let mut numbers = document_or_damaged(random, symbols);
+    numbers.extend(behind(random, symbols));
     numbers
 }
 

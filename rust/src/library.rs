@@ -34,9 +34,8 @@ impl From<Reply> for Answer {
     }
 }
 
-/// The reply of an older build, from before it got its third value or after; that value is not read. On x86-64 Linux a reply
-/// with two values and one with three are both written to memory that the caller hands in, so the longer one's room is enough
-/// for either.
+/// The reply of an older build, from before it got a third value or after; that value is not read. On x86-64 Linux both
+/// are written to memory that the caller hands in, so that room for the longer reply is enough for either.
 #[cfg(feature = "compare")]
 #[repr(C)]
 struct OldReply {
@@ -46,7 +45,7 @@ struct OldReply {
     _third: MaybeUninit<usize>,
 }
 
-/// The numbers taken are not to be read: an older build may not tell them.
+/// An older build may not tell the numbers taken: they are not to be read.
 #[cfg(feature = "compare")]
 impl From<OldReply> for Answer {
     fn from(OldReply { answer, first, second, .. }: OldReply) -> Answer {
@@ -172,8 +171,8 @@ impl Library {
         Library { functions: PRESENT, run_stack }
     }
 
-    /// An older build, which `tests/compare` renames and links beside the present one; what it says of numbers taken is not to
-    /// be read.
+    /// An older build, which `tests/compare` renames and links beside the present one. How many numbers a document took
+    /// is not to be read from its answers.
     #[cfg(feature = "compare")]
     pub fn old() -> Library {
         Library { functions: OLD, run_stack: RUN_STACK }

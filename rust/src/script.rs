@@ -1,11 +1,13 @@
-//! Scripts of questions, and their answers line for line. docs/FORMAT.md describes both.
+//! Scripts of questions, and their answers line for line. docs/FORMAT.md describes both, but for a statement that these
+//! scripts alone have: `taken` prints how many numbers the document of the last `judge` or `run` took, `taken N`, or
+//! `taken none` if it was refused or there was none yet. It leaves `show` as it was.
 
 use crate::contract::Contract;
 use crate::engine::{Answer, Engine};
 use std::fmt::Write;
 
 /// The most bytes of a script that are read.
-pub const MOST_BYTES: usize = 2_097_152;
+pub const MOST_BYTES: usize = 1_572_864;
 
 /// The most bytes of a token that a fault shows.
 pub const MOST_SHOWN: usize = 32;
@@ -172,6 +174,8 @@ struct Player<'e, E: Engine> {
     contract: Contract,
     rows: Vec<u16>,
     left: Left,
+    /// How many numbers the last document took.
+    taken: Option<usize>,
     said: String,
 }
 
@@ -218,6 +222,7 @@ impl<E: Engine> Player<'_, E> {
         self.say(&answer.to_string());
         self.keep_rows(answer, &rows);
         self.left = Left { rows: Some(rows), words: None };
+        self.taken = answer.taken();
     }
 
     fn judge(&mut self, numbers: &[u16]) {
@@ -225,6 +230,7 @@ impl<E: Engine> Player<'_, E> {
         let answer = self.engine.judge(&self.contract, numbers, &mut kind);
         self.say(&answer.to_string());
         self.left = Left { rows: None, words: Some(kind.to_vec()) };
+        self.taken = answer.taken();
     }
 
     fn write(&mut self, row: u16, room: u16) {
@@ -245,6 +251,13 @@ impl<E: Engine> Player<'_, E> {
             self.say_list("words", words);
         }
         self.left = left;
+    }
+
+    fn say_taken(&mut self) {
+        match self.taken {
+            Some(taken) => self.say(&format!("taken {taken}")),
+            None => self.say("taken none"),
+        }
     }
 
     /// One statement, or false at the end.
@@ -287,6 +300,7 @@ impl<E: Engine> Player<'_, E> {
                 self.write(row, room);
             }
             b"show" => self.show(),
+            b"taken" => self.say_taken(),
             _ => return Err(reader.fault(Some(word), A_STATEMENT)),
         }
         Ok(true)
@@ -305,10 +319,17 @@ fn asks_for_help(script: &[u8]) -> bool {
     }
 }
 
-/// What a script prints.
-pub fn play<E: Engine>(engine: &E, script: &[u8]) -> String {
+/// A script that was played: what it printed, and whether it ended with a fault.
+#[derive(Clone, Debug, PartialEq, Eq)]
+pub struct Played {
+    pub said: String,
+    pub fault: bool,
+}
+
+/// Plays a script on an engine.
+pub fn play<E: Engine>(engine: &E, script: &[u8]) -> Played {
     if asks_for_help(script) {
-        return HELP.to_string();
+        return Played { said: HELP.to_string(), fault: false };
     }
     let mut reader = Reader::new(script);
     let mut player = Player {
@@ -317,20 +338,20 @@ pub fn play<E: Engine>(engine: &E, script: &[u8]) -> String {
         contract: Contract::default(),
         rows: Vec::new(),
         left: Left::default(),
+        taken: None,
         said: String::new(),
     };
     loop {
         match player.statement(&mut reader) {
             Ok(true) => {}
-            Ok(false) => break,
+            Ok(false) => return Played { said: player.said, fault: false },
             Err(fault) => {
                 let line = reader.line(fault.place);
                 writeln!(player.said, "line {line}: found {}, expected {}", fault.found, fault.expected).expect("room");
-                break;
+                return Played { said: player.said, fault: true };
             }
         }
     }
-    player.said
 }
 
 /// The script in the file that the program's one argument names; ends the program where there is none.
@@ -353,21 +374,21 @@ pub fn checks(script: &[u8]) -> Vec<(String, Contract, u16)> {
             Answer::Admitted
         }
         fn judge(&self, _: &Contract, _: &[u16], _: &mut [u64]) -> Answer {
-            Answer::Judged { result: 0 }
+            Answer::Judged { result: 0, taken: 0 }
         }
         fn check(&self, contract: &Contract, limit: usize, _: &mut [u16], _: &mut [u64]) -> Answer {
             self.0.borrow_mut().push((contract.clone(), limit as u16));
             Answer::Pass { count: 0 }
         }
         fn run(&self, _: &Contract, _: &[u16], _: &mut [u16]) -> Answer {
-            Answer::Run { root: 0, used: 0 }
+            Answer::Run { root: 0, used: 0, taken: 0 }
         }
         fn write_out(&self, _: &[u16], _: usize, _: &mut [u16]) -> Answer {
             Answer::Written { count: 0 }
         }
     }
     let collector = Collector(std::cell::RefCell::new(Vec::new()));
-    let said = play(&collector, script);
+    let said = play(&collector, script).said;
     let labels =
         said.lines().filter(|line| line.ends_with(" pass 0")).map(|line| line.trim_end_matches(" pass 0").to_string());
     labels.zip(collector.0.into_inner()).map(|(label, (contract, limit))| (label, contract, limit)).collect()

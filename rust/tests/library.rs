@@ -1,13 +1,16 @@
 //! The proved library answers every script of the folder that GOOSEDAWN_VECTORS names as its answers say, and agrees with
-//! the model on random questions, valid and damaged, closing buffers included.
+//! the model on random questions, valid and damaged, closing buffers included. Documents laid end to end are judged and run
+//! one after another as each is alone.
 
 use goosedawn::comparison::compare;
 use goosedawn::contract::Contract;
 use goosedawn::engine::{Answer, Engine};
+use goosedawn::generator::{document, valid, Random, Size};
 use goosedawn::library::Library;
 use goosedawn::model::Model;
 use goosedawn::script::play;
 use std::cell::Cell;
+use std::fmt::Debug;
 use std::path::Path;
 
 const FOLDER: &str = "GOOSEDAWN_VECTORS";
@@ -56,7 +59,7 @@ impl Engine for Counted {
 /// Plays a script; says how many lines agree and how many answers of each operation they hold. True if all agree.
 fn agrees(script: &Path, answers: &Path) -> bool {
     let engine = Counted::default();
-    let said = play(&engine, &std::fs::read(script).expect("the script"));
+    let said = play(&engine, &std::fs::read(script).expect("the script")).said;
     let right = std::fs::read_to_string(answers).expect("the answers");
     let lines = right.lines().count();
     let same = said.lines().zip(right.lines()).filter(|(said, right)| said == right).count();
@@ -94,13 +97,13 @@ fn vectors() {
 #[test]
 fn worked_example() {
     let script = include_bytes!("../../examples/worked.script");
-    assert_eq!(play(&Library::default(), script), include_str!("../../examples/worked.answers"));
+    assert_eq!(play(&Library::default(), script).said, include_str!("../../examples/worked.answers"));
 }
 
 #[test]
 fn every_answer() {
     let script = include_bytes!("../../examples/answers.script");
-    assert_eq!(play(&Library::default(), script), include_str!("../../examples/answers.answers"));
+    assert_eq!(play(&Library::default(), script).said, include_str!("../../examples/answers.answers"));
 }
 
 #[test]
@@ -133,4 +136,44 @@ fn random_questions() {
             Err(difference) => panic!("{difference:?}"),
         }
     }
+}
+
+/// Asks about documents laid end to end, each from where the last one ended, until one is refused. Sees that each is
+/// answered as it is alone, closing buffer included, and tells how many were not refused.
+fn answered_in_turn<B: PartialEq + Debug>(documents: &[Vec<u16>], ask: impl Fn(&[u16]) -> (Answer, B)) -> usize {
+    let laid = documents.concat();
+    let mut place = 0;
+    for (answered, document) in documents.iter().enumerate() {
+        let reply = ask(&laid[place..]);
+        assert_eq!(reply, ask(document), "{document:?} at place {place} of {laid:?}");
+        match reply.0.taken() {
+            Some(taken) => place += taken,
+            None => return answered,
+        }
+    }
+    assert_eq!(place, laid.len());
+    documents.len()
+}
+
+#[test]
+fn documents_one_behind_another() {
+    let library = Library::default();
+    let mut random = Random::new(1);
+    let mut runs = 0;
+    for _ in 0..2000 {
+        let contract = valid(&mut random, Size::Small);
+        let sizes: Vec<_> = (0..random.within(2, 6)).map(|_| random.within(0, 12)).collect();
+        let documents: Vec<_> = sizes.iter().map(|&size| document(&mut random, contract.symbols, size)).collect();
+        let judged = answered_in_turn(&documents, |numbers| {
+            let mut kind = [7; 5];
+            (library.judge(&contract, numbers, &mut kind), kind)
+        });
+        assert_eq!(judged, documents.len());
+        runs += answered_in_turn(&documents, |numbers| {
+            let mut rows = [7; 300];
+            (library.run(&contract, numbers, &mut rows), rows)
+        });
+    }
+    println!("{runs} runs");
+    assert!(runs > 500, "{runs}");
 }

@@ -3,8 +3,9 @@
 use goosedawn::comparison::compare;
 use goosedawn::contract::Contract;
 use goosedawn::engine::{Answer, Engine};
-use goosedawn::generator::{contract, damaged, document, valid, Random, Size};
-use goosedawn::model::Model;
+use goosedawn::generator::{contract, damaged, document, numbers, valid, Random, Size};
+use goosedawn::model::documents::leading_document;
+use goosedawn::model::{Model, Refusal};
 
 #[test]
 fn valid_contracts_are_admitted() {
@@ -37,7 +38,37 @@ fn documents_are_documents() {
     for size in 0..500 {
         let contract = Contract { symbols: 3, ..valid(&mut random, Size::Small) };
         let numbers = document(&mut random, contract.symbols, size);
-        assert_eq!(goosedawn::model::documents::document(3, &numbers), Ok(()), "{numbers:?}");
+        assert_eq!(leading_document(3, &numbers), Ok(&numbers[..]));
+    }
+}
+
+/// Numbers, and how many of them the model takes for a document.
+type Case = fn(&[u16], Result<usize, Refusal>) -> bool;
+
+#[test]
+fn numbers_meet_every_case() {
+    let cases: [(&str, Case); 12] = [
+        ("a document alone", |numbers, taken| taken == Ok(numbers.len())),
+        ("something behind a document", |numbers, taken| taken.is_ok_and(|taken| taken < numbers.len())),
+        ("no symbol right behind it", |numbers, taken| taken.is_ok_and(|taken| numbers.get(taken) > Some(&2))),
+        ("very much behind it", |numbers, taken| taken.is_ok_and(|taken| taken < 100) && numbers.len() > 1024),
+        ("the longest document", |numbers, taken| taken == Ok(1023) && numbers.len() == 1023),
+        ("something behind the longest", |numbers, taken| taken == Ok(1023) && numbers.len() > 1023),
+        ("a tree cut short", |numbers, taken| taken == Err((12, numbers.len())) && numbers.len() < 1023),
+        ("1,023 numbers and no end", |numbers, taken| taken == Err((12, 1023)) && numbers.len() == 1023),
+        ("1,024 numbers and no end", |numbers, taken| taken == Err((11, 1024)) && numbers.len() == 1024),
+        ("no symbol at place 1,023", |numbers, taken| taken == Err((11, numbers.len())) && numbers[1023] > 2),
+        ("no symbol at place 1,022", |numbers, taken| taken == Err((12, 1022)) && numbers.len() > 1023),
+        ("no symbol, and very much behind it", |numbers, taken| {
+            taken.is_err_and(|(number, place)| number == 12 && place < 100) && numbers.len() > 1024
+        }),
+    ];
+    let mut random = Random::new(4);
+    let made: Vec<_> = (0..4000).map(|_| numbers(&mut random, 3)).collect();
+    for (name, case) in cases {
+        let met = made.iter().filter(|numbers| case(numbers, leading_document(3, numbers).map(<[u16]>::len))).count();
+        println!("{name}: {met}");
+        assert!(met > 0, "{name}");
     }
 }
 

@@ -1,22 +1,27 @@
-//! The worked example, the script of every answer, and what a script with a fault prints.
+//! The worked example, the script of every answer, the numbers taken, and what a script with a fault prints.
 
 use goosedawn::model::Model;
-use goosedawn::script::{play, HELP, MOST_BYTES};
+use goosedawn::script::{play, Played, HELP, MOST_BYTES};
 
 #[test]
 fn worked_example() {
     let script = include_bytes!("../../examples/worked.script");
-    assert_eq!(play(&Model, script), include_str!("../../examples/worked.answers"));
+    assert_eq!(play(&Model, script).said, include_str!("../../examples/worked.answers"));
 }
 
 #[test]
 fn every_answer() {
     let script = include_bytes!("../../examples/answers.script");
-    assert_eq!(play(&Model, script), include_str!("../../examples/answers.answers"));
+    assert_eq!(play(&Model, script).said, include_str!("../../examples/answers.answers"));
 }
 
 fn says(script: &str, said: &str) {
-    assert_eq!(play(&Model, script.as_bytes()), said, "{script:?}");
+    assert_eq!(play(&Model, script.as_bytes()), Played { said: said.to_string(), fault: false }, "{script:?}");
+}
+
+/// The last line of what is said names the fault.
+fn stops(script: &str, said: &str) {
+    assert_eq!(play(&Model, script.as_bytes()), Played { said: said.to_string(), fault: true }, "{script:?}");
 }
 
 #[test]
@@ -35,37 +40,62 @@ fn the_label_is_any_token() {
     says("case a#b\nadmit", "a refused 1 0\n");
 }
 
+/// A contract that takes any forest of one sort of element and copies it.
+const COPY: &str = "symbols 2 input-states 1 output-states 1 counts 0 input-rows 0 0 0 0 0 1 0 0 input-marks 1
+    output-table 0 0 output-marks 1 nodes 1 0 0 0 0 2 0 1 0 0 2 0 2 0 0 1 1 0 1 2 rules 0 0 0 0 1 3 ";
+
+#[test]
+fn the_numbers_taken() {
+    let of_copy = |script: &str, said: &str| says(&format!("{COPY} {script}"), said);
+    of_copy("taken", "- taken none\n");
+    of_copy("judge 1 0 0 1 9 taken", "- judged 1 3\n- taken 3\n");
+    of_copy("run 9 0 0 taken", "- run 0 1\n- taken 1\n");
+    of_copy("judge 1 0 0 judge 1 0 taken", "- judged 1 3\n- refused 12 2\n- taken none\n");
+    of_copy("judge 1 0 0 run 0 0 taken", "- judged 1 3\n- refused 14 0\n- taken none\n");
+}
+
+#[test]
+fn other_questions_leave_the_numbers_taken() {
+    let script = format!("{COPY} judge 1 0 0 admit check 0 write 0 0 taken taken");
+    says(&script, "- judged 1 3\n- admitted\n- refused 9 0\n- refused 18 0\n- taken 3\n- taken 3\n");
+}
+
+#[test]
+fn the_numbers_taken_leave_what_is_shown() {
+    says(&format!("{COPY} run 1 0 taken show"), "- run 0 1\n- taken 1\n- rows 0 0 0\n");
+}
+
 #[test]
 fn an_unknown_word() {
-    says("admit\n\nchek 5\nadmit", "- refused 1 0\nline 3: found chek, expected a statement\n");
-    says("7", "line 1: found 7, expected a statement\n");
-    says("counts 0 1 1x", "line 1: found 1x, expected a statement\n");
-    says("Admit", "line 1: found Admit, expected a statement\n");
+    stops("admit\n\nchek 5\nadmit", "- refused 1 0\nline 3: found chek, expected a statement\n");
+    stops("7", "line 1: found 7, expected a statement\n");
+    stops("counts 0 1 1x", "line 1: found 1x, expected a statement\n");
+    stops("Admit", "line 1: found Admit, expected a statement\n");
     let long = "x".repeat(40);
-    says(&long, &format!("line 1: found {}..., expected a statement\n", &long[..32]));
+    stops(&long, &format!("line 1: found {}..., expected a statement\n", &long[..32]));
 }
 
 #[test]
 fn a_number_that_is_too_large() {
     let expected = "expected a number from 0 to 65535\n";
-    says("symbols 65535 symbols 65536", &format!("line 1: found 65536, {expected}"));
+    stops("symbols 65535 symbols 65536", &format!("line 1: found 65536, {expected}"));
     says("symbols 0065535 admit", "- refused 1 0\n");
-    says("judge 1 0\n99999999999999999999999", &format!("line 2: found 99999999999999999999999, {expected}"));
+    stops("judge 1 0\n99999999999999999999999", &format!("line 2: found 99999999999999999999999, {expected}"));
 }
 
 #[test]
 fn a_statement_cut_off() {
-    says("admit check", "- refused 1 0\nline 1: found the end of the script, expected a number from 0 to 65535\n");
-    says("write 3\nshow", "line 2: found show, expected a number from 0 to 65535\n");
-    says("case # a\n", "line 2: found the end of the script, expected a name\n");
-    says("run\nadmit", "line 2: found admit, expected a number from 0 to 65535\n");
+    stops("admit check", "- refused 1 0\nline 1: found the end of the script, expected a number from 0 to 65535\n");
+    stops("write 3\nshow", "line 2: found show, expected a number from 0 to 65535\n");
+    stops("case # a\n", "line 2: found the end of the script, expected a name\n");
+    stops("run\nadmit", "line 2: found admit, expected a number from 0 to 65535\n");
 }
 
 #[test]
 fn help_is_the_only_word() {
     says("# please\n help \n", HELP);
-    says("help admit", "line 1: found help, expected a statement\n");
-    says("admit help", "- refused 1 0\nline 1: found help, expected a statement\n");
+    stops("help admit", "line 1: found help, expected a statement\n");
+    stops("admit help", "- refused 1 0\nline 1: found help, expected a statement\n");
 }
 
 #[test]
@@ -76,10 +106,10 @@ fn a_script_that_is_too_long() {
     script.push_str(&" ".repeat(MOST_BYTES - script.len()));
     says(&script, "- refused 1 0\n");
     script.push('\n');
-    says(&script, &format!("- refused 1 0\n{}", fault(2)));
+    stops(&script, &format!("- refused 1 0\n{}", fault(2)));
     let mut script = " ".repeat(MOST_BYTES - 5);
     script.push_str("admit");
     says(&script, "- refused 1 0\n");
     script.push('x');
-    says(&script, &fault(1));
+    stops(&script, &fault(1));
 }

@@ -7,7 +7,7 @@ use std::path::Path;
 const FOLDER: &str = "GOOSEDAWN_VECTORS";
 
 fn compare(script: &Path, answers: &Path) {
-    let said = play(&Model, &std::fs::read(script).expect("the script"));
+    let said = play(&Model, &std::fs::read(script).expect("the script")).said;
     let right = std::fs::read_to_string(answers).expect("the answers");
     for (line, (said, right)) in said.lines().zip(right.lines()).enumerate() {
         assert!(said == right, "{}, answer {}: {said} instead of {right}", script.display(), line + 1);

@@ -19,18 +19,18 @@ abbrev pub answerOf : Reply → Answer
 answerOf r =
     choose (eqb (r .answer) 0) (refusal (r .first) (r .second))
     (choose (eqb (r .answer) 1) admitted
-    (choose (eqb (r .answer) 2) (judged (r .first))
+    (choose (eqb (r .answer) 2) (judged (r .first) (r .second))
     (choose (eqb (r .answer) 3) (pass (r .first))
     (choose (eqb (r .answer) 4) (tree (r .first))
-    (choose (eqb (r .answer) 5) (ran (r .first) (r .second)) (written (r .first)))))))
+    (choose (eqb (r .answer) 5) (ran (r .first) (r .second) (r .third)) (written (r .first)))))))
 
 -- no two answers have one reply
 pub answer-of-reply : (answer : Answer) → answerOf (replyOf answer) ≡ answer
 answer-of-reply admitted = refl
-answer-of-reply (judged result) = refl
+answer-of-reply (judged result taken) = refl
 answer-of-reply (tree row) = refl
 answer-of-reply (pass count) = refl
-answer-of-reply (ran root used) = refl
+answer-of-reply (ran root used taken) = refl
 answer-of-reply (written count) = refl
 answer-of-reply (refusal number place) = refl
 

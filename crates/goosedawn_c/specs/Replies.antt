@@ -1,4 +1,4 @@
--- The reply of an answer: which answer it is, then its values in document 01's order, and 0 where it has fewer than two.
+-- The reply of an answer: which answer it is, then its values in document 01's order, and 0 where it has fewer than three.
 use mathlib.Core.Path.{_≡_}
 use mathlib.Core.List.{List}
 use Prim.Native.Nat.{ℕ}
@@ -9,17 +9,17 @@ use Rattle.model.specs.Running.{Ran}
 use Rattle.model.specs.WritingOut.{Written}
 use Rattle.goosedawn_c.specs.declared.Reply.{Reply}
 
-abbrev pub reply : (answer first second : ℕ) → Reply
-reply answer first second = record { answer = answer; first = first; second = second }
+abbrev pub reply : (answer first second third : ℕ) → Reply
+reply answer first second third = record { answer = answer; first = first; second = second; third = third }
 
 abbrev pub replyOf : Answer → Reply
-replyOf (refusal number place) = reply 0 number place
-replyOf admitted = reply 1 0 0
-replyOf (judged result) = reply 2 result 0
-replyOf (pass count) = reply 3 count 0
-replyOf (tree row) = reply 4 row 0
-replyOf (ran root used) = reply 5 root used
-replyOf (written count) = reply 6 count 0
+replyOf (refusal number place) = reply 0 number place 0
+replyOf admitted = reply 1 0 0 0
+replyOf (judged result taken) = reply 2 result taken 0
+replyOf (pass count) = reply 3 count 0 0
+replyOf (tree row) = reply 4 row 0 0
+replyOf (ran root used taken) = reply 5 root used taken
+replyOf (written count) = reply 6 count 0 0
 
 -- a reply and what a buffer then holds are those of document 01's result
 abbrev pub Judges : Reply → (words : List ℕ) → Judged → Type 0

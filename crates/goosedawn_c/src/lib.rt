@@ -1,6 +1,6 @@
 // Goosedawn for C and Rust: the operations as functions with C's calling convention, over any numbers and slices.
 //
-// A slice is a pointer, then a length. What comes back is document 01's answer in three numbers; specs/Replies.antt gives
+// A slice is a pointer, then a length. What comes back is document 01's answer in four numbers; specs/Replies.antt gives
 // them, and include/goosedawn.h says in plain words what each function does.
 ghost use mathlib.Core.Path.{_≡_};
 ghost use Rattle.model.specs.Tables.{contract};
@@ -29,15 +29,17 @@ pub struct Reply {
     pub answer: usize,
     pub first: usize,
     pub second: usize,
+    pub third: usize,
 }
 
-fn reply_with(answer: usize, first: usize, second: usize) -> Reply
-    ensures { λ r. ⌜ r ≡ reply answer first second ⌝ }
+fn reply_with(answer: usize, first: usize, second: usize, third: usize) -> Reply
+    ensures { λ r. ⌜ r ≡ reply answer first second third ⌝ }
 {
     Reply {
         answer,
         first,
         second,
+        third,
     }
 }
 
@@ -46,13 +48,13 @@ fn reply_of(answer: Answer) -> Reply
     ensures { λ r. ⌜ r ≡ replyOf (numbered answer) ⌝ }
 {
     match answer {
-        Answer::Refused(number, place) => reply_with(0, number, place),
-        Answer::Admitted => reply_with(1, 0, 0),
-        Answer::Judged(result) => reply_with(2, result, 0),
-        Answer::Pass(count) => reply_with(3, count, 0),
-        Answer::Tree(row) => reply_with(4, row, 0),
-        Answer::Ran(root, used) => reply_with(5, root, used),
-        Answer::Written(count) => reply_with(6, count, 0),
+        Answer::Refused(number, place) => reply_with(0, number, place, 0),
+        Answer::Admitted => reply_with(1, 0, 0, 0),
+        Answer::Judged(result, taken) => reply_with(2, result, taken, 0),
+        Answer::Pass(count) => reply_with(3, count, 0, 0),
+        Answer::Tree(row) => reply_with(4, row, 0, 0),
+        Answer::Ran(root, used, taken) => reply_with(5, root, used, taken),
+        Answer::Written(count) => reply_with(6, count, 0, 0),
     }
 }
 
@@ -88,7 +90,7 @@ pub extern "C" fn goosedawn_admit(
     reply_of(of_admission(answer))
 }
 
-// Judges a document; the kind of its tree goes into the kind buffer.
+// Judges the document that the numbers begin with; the kind of its tree goes into the kind buffer.
 #[no_mangle]
 pub extern "C" fn goosedawn_judge(
     symbols: usize,
@@ -162,7 +164,7 @@ pub extern "C" fn goosedawn_check(
     reply_of(of_checking(answer))
 }
 
-// Runs a contract's transformation on a document; the rows of the tree go into the row buffer.
+// Runs a contract's transformation on the document that the numbers begin with; the rows of the tree go into the row buffer.
 #[no_mangle]
 pub extern "C" fn goosedawn_run(
     symbols: usize,

@@ -43,10 +43,10 @@ pub fn append_answer(out: &mut [u8], at: usize, answer: Answer) -> usize
 {
     match answer {
         Answer::Admitted => append(out, at, b"admitted"),
-        Answer::Judged(result) => append_one(out, at, b"judged ", result),
+        Answer::Judged(result, taken) => append_two(out, at, b"judged ", result, taken),
         Answer::Tree(row) => append_one(out, at, b"tree ", row),
         Answer::Pass(count) => append_one(out, at, b"pass ", count),
-        Answer::Ran(root, used) => append_two(out, at, b"run ", root, used),
+        Answer::Ran(root, used, _) => append_two(out, at, b"run ", root, used),
         Answer::Written(count) => append_one(out, at, b"written ", count),
         Answer::Refused(number, place) => append_two(out, at, b"refused ", number, place),
     }

@@ -102,10 +102,10 @@ two-short word first second =
 
 pub answer-short : (a : Answer) → length (answerText a) ≤ 49
 answer-short admitted = omega arith
-answer-short (judged result) = omega (arith, one-short phrases.judged result)
+answer-short (judged result taken) = omega (arith, two-short phrases.judged result taken)
 answer-short (tree row) = omega (arith, one-short phrases.shown row)
 answer-short (pass count) = omega (arith, one-short phrases.passed count)
-answer-short (ran root used) = omega (arith, two-short phrases.ran root used)
+answer-short (ran root used taken) = omega (arith, two-short phrases.ran root used)
 answer-short (written count) = omega (arith, one-short phrases.wrote count)
 answer-short (refusal number place) = omega (arith, two-short phrases.refused number place)
 
@@ -114,10 +114,10 @@ written-short w = go (w .answer)
   where
     go : (a : Answer) → length (writtenText (record { answer = a; numbers = w .numbers })) ≤ 50 + 21 * length (w .numbers)
     go admitted = omega (arith, answer-short admitted)
-    go (judged result) = omega (arith, answer-short (judged result))
+    go (judged result taken) = omega (arith, answer-short (judged result taken))
     go (tree row) = omega (arith, answer-short (tree row))
     go (pass count) = omega (arith, answer-short (pass count))
-    go (ran root used) = omega (arith, answer-short (ran root used))
+    go (ran root used taken) = omega (arith, answer-short (ran root used taken))
     go (written count) =
         let list : List ℕ = take count (w .numbers) in
         omega (arith, answer-short (written count), length-append (answerText (written count)) (58 ∷ spaced list), spaced-short list, length-take count (w .numbers))

@@ -17,7 +17,6 @@ use Rattle.model.specs.Admission.{admission}
 use Rattle.model.specs.Refusals.{AdmissionNumber, to-5, of-node, of-rules-and-facts}
 use Rattle.model.proofs.Laws.Answers.{Numbers}
 use Rattle.model.proofs.Laws.Admitted.{admission-numbers}
-use Rattle.model.specs.Documents.{document}
 use Rattle.model.specs.Checking.{Checked, checking, checkingVerdict}
 use Rattle.model.specs.Running.{Ran, rowsWrong, running, runningVerdict}
 use Rattle.script.specs.Spans.{overwritten}

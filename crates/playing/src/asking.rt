@@ -30,10 +30,10 @@ fn writes_rows(answer: Answer) -> bool
     match answer {
         Answer::Refused(number, _) => (number == 10) | ((13 <= number) & (number <= 15)),
         Answer::Admitted => true,
-        Answer::Judged(_) => true,
+        Answer::Judged(_, _) => true,
         Answer::Tree(_) => true,
         Answer::Pass(_) => true,
-        Answer::Ran(_, _) => true,
+        Answer::Ran(_, _, _) => true,
         Answer::Written(_) => true,
     }
 }

@@ -113,12 +113,13 @@ line text = 32 ∷ (text ++ (10 ∷ []))
 abbrev pub labelled : State → List ℕ → List ℕ
 labelled state text = state .label ++ line text
 
+-- "X10 judged 1 3" (result, numbers taken), "while run lines keep two numbers"
 abbrev pub answerText : Answer → List ℕ
 answerText admitted = phrases.admitted
-answerText (judged result) = phrases.judged ++ decimal result
+answerText (judged result taken) = phrases.judged ++ decimal result ++ (32 ∷ decimal taken)
 answerText (pass count) = phrases.passed ++ decimal count
 answerText (tree row) = phrases.shown ++ decimal row
-answerText (ran root used) = phrases.ran ++ decimal root ++ (32 ∷ decimal used)
+answerText (ran root used taken) = phrases.ran ++ decimal root ++ (32 ∷ decimal used)
 answerText (written count) = phrases.wrote ++ decimal count
 answerText (refusal number place) = phrases.refused ++ decimal number ++ (32 ∷ decimal place)
 
@@ -126,10 +127,10 @@ answerText (refusal number place) = phrases.refused ++ decimal number ++ (32 ∷
 abbrev pub writtenText : Written → List ℕ
 writtenText w = elim (w .answer) [
   | admitted ↦ answerText (w .answer)
-  | judged result ↦ answerText (w .answer)
+  | judged result taken ↦ answerText (w .answer)
   | tree row ↦ answerText (w .answer)
   | pass count ↦ answerText (w .answer)
-  | ran root used ↦ answerText (w .answer)
+  | ran root used taken ↦ answerText (w .answer)
   | written count ↦ answerText (w .answer) ++ (58 ∷ spaced (take count (w .numbers)))
   | refusal number place ↦ answerText (w .answer)
 ]
@@ -148,10 +149,10 @@ untouched n = replicate n 7
 abbrev pub writesRows : Answer → Bool
 writesRows (refusal number place) = eqb number 10 || (leb 13 number && leb number 15)
 writesRows admitted = true
-writesRows (judged result) = true
+writesRows (judged result taken) = true
 writesRows (tree row) = true
 writesRows (pass count) = true
-writesRows (ran root used) = true
+writesRows (ran root used taken) = true
 writesRows (written count) = true
 
 -- the current rows are then what it left there

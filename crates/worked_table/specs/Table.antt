@@ -1,13 +1,14 @@
--- X1 to X8 and X12 of document 01, its sizes, the faults of nodes and its false readings, as one table; the checker computes every answer of it.
+-- X1 to X8, X10 and X12 of document 01, its sizes, the faults of nodes, leading trees and its false readings, as one table; the checker computes every answer of it.
 use mathlib.Core.Path.{_≡_, refl}
-use mathlib.Core.List.{List, [], _∷_, map}
+use mathlib.Core.List.{List, [], _∷_, _++_, map}
 use Prim.Native.Nat.{ℕ, _*_}
+use lib.ListN.{replicate}
 use Rattle.foundation.specs.Tests.{_and_, _or_, same, below, someBelow}
 use Rattle.foundation.specs.Search.{first}
 use Rattle.foundation.specs.Words.{bit, word}
 use Rattle.foundation.specs.Lists.{zeroFilled, sameList}
 use Rattle.model.specs.Trees.{preorder}
-use Rattle.model.specs.Documents.{joined, forest, leadingFrom, leading, treeOf, documentTree, wholeTree, document}
+use Rattle.model.specs.Documents.{joined, forest, leadingFrom, leading, treeOf, documentTree, reading, numbersTaken, leadingTree, endless, faultOf, leadingVerdict}
 use Rattle.model.specs.Rows.{treeBelow, treeAt}
 use Rattle.model.specs.Tables.{Contract}
 use Rattle.model.specs.Expressions.{expressionOf, expressionBelow, expression, greatestParameter, holdsCall}
@@ -21,7 +22,7 @@ use Rattle.model.specs.Checking.{rowNumbers, kindNumbers, standing, firstBreaki
 use Rattle.model.specs.Running.{_after_, addRow, countCall, seekRule, evaluate, runAt, runOn, run, closing, runningVerdict, running}
 use Rattle.model.specs.WritingOut.{writingVerdict, writingOut}
 use Rattle.worked_table.specs.Questions
-use Rattle.worked_table.specs.Questions.{Question, Reply, ask}
+use Rattle.worked_table.specs.Questions.{Question, Reply, lent, ask}
 use Rattle.worked_table.specs.Contracts.{bothAccepted, C1, C2, C3, Sized, Noded, Silent, OneChoice, OneChild, LateSymbol}
 
 pub record Case : Type 0 where
@@ -56,11 +57,13 @@ table =
     -- X5
     ∷ line (C1 (1 ∷ 0 ∷ [])) (Questions.check 1) (refusal 10 1) (closed 1 [] [])
     -- X6
-    ∷ line C2 (Questions.run 100 (1 ∷ 0 ∷ 1 ∷ 0 ∷ 0 ∷ [])) (ran 2 3) (closedRun 100 (0 ∷ 0 ∷ 0 ∷ 0 ∷ 0 ∷ 0 ∷ 1 ∷ 1 ∷ 0 ∷ []))
+    ∷ line C2 (Questions.run 100 (1 ∷ 0 ∷ 1 ∷ 0 ∷ 0 ∷ [])) (ran 2 3 5) (closedRun 100 (0 ∷ 0 ∷ 0 ∷ 0 ∷ 0 ∷ 0 ∷ 1 ∷ 1 ∷ 0 ∷ []))
     -- X7
-    ∷ line C2 (Questions.run 100 (0 ∷ [])) (ran 0 1) (closedRun 100 (0 ∷ 0 ∷ 0 ∷ []))
+    ∷ line C2 (Questions.run 100 (0 ∷ [])) (ran 0 1 1) (closedRun 100 (0 ∷ 0 ∷ 0 ∷ []))
     -- X8
     ∷ line C2 (Questions.run 2 (1 ∷ 0 ∷ 1 ∷ 0 ∷ 0 ∷ [])) (refusal 14 2) (closedRun 2 [])
+    -- X10
+    ∷ line (C1 bothAccepted) (Questions.judge (1 ∷ 0 ∷ 0 ∷ 0 ∷ [])) (judged 1 3) ((1 ∷ 2 ∷ 0 ∷ 0 ∷ 0 ∷ []) ∷ [])
     -- X12
     ∷ line (C3 (0 ∷ 0 ∷ [])) (Questions.check 512) (pass 2) (closed 512 (0 ∷ 0 ∷ 0 ∷ 1 ∷ 0 ∷ 0 ∷ []) (1 ∷ 12 ∷ 0 ∷ 0 ∷ 0 ∷ 1 ∷ 0 ∷ 0 ∷ 0 ∷ 0 ∷ []))
     -- 256 facts and 260
@@ -86,10 +89,19 @@ table =
     ∷ line (Noded (1 ∷ 0 ∷ 0 ∷ 0 ∷ 0 ∷ 1 ∷ 1 ∷ 1 ∷ 1 ∷ 0 ∷ [])) Questions.admit (refusal 33 1) []
     ∷ line (Noded (1 ∷ 0 ∷ 0 ∷ 0 ∷ 0 ∷ 2 ∷ 1 ∷ 1 ∷ 1 ∷ 1 ∷ [])) Questions.admit (refusal 33 1) []
     ∷ line (Noded (1 ∷ 0 ∷ 0 ∷ 1 ∷ 0 ∷ 3 ∷ 0 ∷ 0 ∷ 0 ∷ 0 ∷ [])) Questions.admit (refusal 34 0) []
+    -- numbers behind the tree: no symbol, in a run too; and more than 1,023 numbers
+    ∷ line (C1 bothAccepted) (Questions.judge (0 ∷ 65535 ∷ [])) (judged 1 1) ((1 ∷ 1 ∷ 0 ∷ 0 ∷ 0 ∷ []) ∷ [])
+    ∷ line C2 (Questions.run 100 (0 ∷ 65535 ∷ [])) (ran 0 1 1) (closedRun 100 (0 ∷ 0 ∷ 0 ∷ []))
+    ∷ line (C1 bothAccepted) (Questions.judge (0 ∷ replicate 1023 1)) (judged 1 1) ((1 ∷ 1 ∷ 0 ∷ 0 ∷ 0 ∷ []) ∷ [])
+    -- no end: 1,023 numbers, and one more; a fault at the last place that is looked at, and at the next
+    ∷ line (C1 bothAccepted) (Questions.judge (replicate 1023 1)) (refusal 12 1023) (lent 5 ∷ [])
+    ∷ line (C1 bothAccepted) (Questions.judge (replicate 1024 1)) (refusal 11 1024) (lent 5 ∷ [])
+    ∷ line (C1 bothAccepted) (Questions.judge (replicate 1022 1 ++ (2 ∷ 1 ∷ []))) (refusal 12 1022) (lent 5 ∷ [])
+    ∷ line (C1 bothAccepted) (Questions.judge (replicate 1023 1 ++ (2 ∷ []))) (refusal 11 1024) (lent 5 ∷ [])
     -- the false readings: an unused argument skipped is X12; then a tree without an output, a choice anew at each use of a
     -- parameter, two calls on one child, and a round that adds nothing for one symbol
     ∷ line Silent (Questions.check 3) (pass 1) (closed 3 (0 ∷ 0 ∷ 0 ∷ []) (1 ∷ 0 ∷ 0 ∷ 0 ∷ 0 ∷ []))
-    ∷ line OneChoice (Questions.judge (1 ∷ 0 ∷ 0 ∷ [])) (judged 1) ((2 ∷ 6 ∷ 0 ∷ 0 ∷ 0 ∷ []) ∷ [])
+    ∷ line OneChoice (Questions.judge (1 ∷ 0 ∷ 0 ∷ [])) (judged 1 3) ((2 ∷ 6 ∷ 0 ∷ 0 ∷ 0 ∷ []) ∷ [])
     ∷ line OneChild (Questions.check 3) (pass 3)
     (closed 3 (0 ∷ 0 ∷ 0 ∷ 1 ∷ 0 ∷ 0 ∷ 1 ∷ 1 ∷ 0 ∷ []) (1 ∷ 16 ∷ 0 ∷ 0 ∷ 0 ∷ 1 ∷ 34 ∷ 0 ∷ 0 ∷ 0 ∷ 1 ∷ 36 ∷ 0 ∷ 0 ∷ 0 ∷ []))
     ∷ line LateSymbol (Questions.check 2) (tree 1) (closed 2 (0 ∷ 0 ∷ 0 ∷ 2 ∷ 0 ∷ 0 ∷ []) (1 ∷ 1 ∷ 0 ∷ 0 ∷ 0 ∷ 2 ∷ 2 ∷ 0 ∷ 0 ∷ 0 ∷ []))
@@ -98,7 +110,7 @@ table =
 -- one name that opens every definition, for computing
 unfoldable pub computing : Unit {0}
 unfolding _and_ _or_ same below someBelow first bit word zeroFilled sameList
-    preorder joined forest leadingFrom leading treeOf documentTree wholeTree document treeBelow treeAt
+    preorder joined forest leadingFrom leading treeOf documentTree reading numbersTaken leadingTree endless faultOf leadingVerdict treeBelow treeAt
     expressionOf expressionBelow expression greatestParameter holdsCall _then_ refuseIf refuseFirst refuseLowest nodeFault lowestNodeFault given
     sizes lengths inputRows entries counts nodes rules facts admission admit
     yields factsAt fact digits code offset factNumber numberedFrom numbered

@@ -42,7 +42,7 @@ fn main() {
             let run_stack = size.parse().expect("a size");
             let player = move || play(&Library::with_run_stack(run_stack), &script);
             let thread = thread::Builder::new().stack_size(run_stack).spawn(player).expect("a thread");
-            print!("{}", thread.join().expect("the answers"));
+            print!("{}", thread.join().expect("the answers").said);
         }
         _ => {
             eprintln!("usage: stack FILE");

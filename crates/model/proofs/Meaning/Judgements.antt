@@ -140,7 +140,7 @@ module _ (C : Contract) (numbers buffer : List ℕ) where
 
 module _ (C : Contract) (good : Admitted C) where
   -- a document is judged as it is alone, whatever follows it and whatever the kind buffer held
-  document-judged : (t : Tree) (rest buffer : List ℕ) → IsDocument C t → length buffer ≡ 5
+  pub document-judged : (t : Tree) (rest buffer : List ℕ) → IsDocument C t → length buffer ≡ 5
       → judging C (preorder t ++ rest) buffer ≡ record { answer = judged (judgement C (kindOf C t)) (length (preorder t)); words = kindOf C t }
   document-judged t rest buffer (over, few) five =
       judged-document C (preorder t ++ rest) buffer good five t (length (preorder t))
