@@ -82,7 +82,7 @@ unfoldable pub endless : ℕ → Leading → Bool
 endless n (ends at) = false
 endless n (faulty at) = eqb at mostNumbers && ltb mostNumbers n
 
--- "12, the first number not below S .. or the length if the tree has not ended"; "no longer given there for numbers after the tree"
+-- "12, the first number not below S .. or the length if the tree has not ended"; "12 is no longer given there for numbers after the tree"
 unfoldable pub faultOf : Leading → Verdict
 faultOf (ends at) = fine
 faultOf (faulty at) = refused 12 at

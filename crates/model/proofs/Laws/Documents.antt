@@ -454,7 +454,7 @@ fine-ends S xs e = go (reading S xs) refl (then-fine _ _ e .1)
   where
     go : (l : Leading) → reading S xs ≡ l → faultOf l ≡ fine → reading S xs ≡ ends (numbersTaken S xs)
     go (ends n) r f = r ∙ ap ends (sym (ends-taken S n xs r))
-    go (faulty at) r f = absurd (refused-not-fine 12 at f)
+    go (faulty at) r f = absurd (refused-not-fine 12 _ f)
 
 pub ends-fine : (S n : ℕ) (xs : List ℕ) → reading S xs ≡ ends n → leadingVerdict S xs ≡ fine
 unfolding leadingVerdict endless faultOf _then_ refuseIf

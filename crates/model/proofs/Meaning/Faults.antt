@@ -194,26 +194,26 @@ module _ (S : ℕ) (xs : List ℕ) (some : 1 ≤ S) where
   abbrev Endless : Type 0
   Endless = GoesOn S xs mostNumbers × (mostNumbers < length xs)
 
-  pub endless-means : (endless (length xs) (reading S xs) ≡ true) ↔ Endless
+  endless-told : Endless → endless (length xs) (reading S xs) ≡ true
   unfolding reading endless
-  endless-means = (to (leading S (take mostNumbers xs)) refl, from)
-    where
-      to : (l : Leading) → leading S (take mostNumbers xs) ≡ l → endless (length xs) l ≡ true → Endless
-      to (ends n) r e = absurd (true≢false (sym e))
-      to (faulty n) r e =
-          let (whole, follows) = both-true (eqb n mostNumbers) (ltb mostNumbers (length xs)) e in
-          let all : n ≡ mostNumbers = eqb-true n mostNumbers whole in
-          (
-            goes-on-further S xs mostNumbers mostNumbers (omega arith)
-                (subst (GoesOn S (take mostNumbers xs)) all (fault-goes-on S some (take mostNumbers xs) n (faulty-fault S some (take mostNumbers xs) n r))),
-            ltb-true mostNumbers (length xs) follows,
-          )
+  endless-told (g, more) =
+      let all : mostNumbers ≡ length (take mostNumbers xs) = omega (arith, length-take mostNumbers xs) in
+      let read = fault-faulty S some (take mostNumbers xs) mostNumbers (cut-short (goes-on-already S xs mostNumbers mostNumbers (omega arith) g) all) in
+      rw (read, lt-ltb mostNumbers (length xs) more)
 
-      from : Endless → endless (length xs) (leading S (take mostNumbers xs)) ≡ true
-      from (g, more) =
-          let all : mostNumbers ≡ length (take mostNumbers xs) = omega (arith, length-take mostNumbers xs) in
-          let read = fault-faulty S some (take mostNumbers xs) mostNumbers (cut-short (goes-on-already S xs mostNumbers mostNumbers (omega arith) g) all) in
-          rw (read, lt-ltb mostNumbers (length xs) more)
+  told-endless : (l : Leading) → reading S xs ≡ l → endless (length xs) l ≡ true → Endless
+  unfolding reading endless
+  told-endless (ends n) r e = absurd (true≢false (sym e))
+  told-endless (faulty n) r e =
+      let (whole, follows) = both-true (eqb n mostNumbers) (ltb mostNumbers (length xs)) e in
+      let all : n ≡ mostNumbers = eqb-true n mostNumbers whole in (
+        goes-on-further S xs mostNumbers mostNumbers (omega arith)
+            (subst (GoesOn S (take mostNumbers xs)) all (fault-goes-on S some (take mostNumbers xs) n (faulty-fault S some (take mostNumbers xs) n r))),
+        ltb-true mostNumbers (length xs) follows,
+      )
+
+  pub endless-means : (endless (length xs) (reading S xs) ≡ true) ↔ Endless
+  endless-means = (told-endless (reading S xs) refl, endless-told)
 
   -- a fault of the first 1,023 numbers is one of all, and conversely, unless they go on behind these
   fault-means : (Endless → ⊥) → (n : ℕ) → Fault S (take mostNumbers xs) n ↔ Fault S xs n
@@ -255,11 +255,10 @@ module _ (S : ℕ) (xs : List ℕ) (some : 1 ≤ S) where
 
   pub fault-exactly : (Endless → ⊥) → (place : ℕ) → (faultOf (reading S xs) ≡ refused 12 place) ↔ Fault S xs place
   unfolding reading faultOf
-  fault-exactly stops place =
-      (
-        λ e. fault-means stops place .0 (told (leading S (take mostNumbers xs)) refl e),
-        λ f. ap faultOf (fault-faulty S some (take mostNumbers xs) place (fault-means stops place .1 f)),
-      )
+  fault-exactly stops place = (
+    λ e. fault-means stops place .0 (told (leading S (take mostNumbers xs)) refl e),
+    λ f. ap faultOf (fault-faulty S some (take mostNumbers xs) place (fault-means stops place .1 f)),
+  )
     where
       told : (l : Leading) → leading S (take mostNumbers xs) ≡ l → faultOf l ≡ refused 12 place → Fault S (take mostNumbers xs) place
       told (ends n) r e = absurd (refused-not-fine 12 place (sym e))

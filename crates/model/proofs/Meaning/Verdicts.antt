@@ -306,8 +306,7 @@ module _ (S : ℕ) (numbers : List ℕ) where
     followed e place = (
       λ told.
           let (test, same) = refuse-if-told _ 12 _ 12 place told in
-          let more : numbersTaken S numbers < length numbers = ltb-true (numbersTaken S numbers) (length numbers) test in
-          (
+          let more : numbersTaken S numbers < length numbers = ltb-true (numbersTaken S numbers) (length numbers) test in (
             (leadingTree S numbers, subst (LeadingDocument S numbers (leadingTree S numbers)) same (fine-document e)),
             omega arith,
           ),
