@@ -1,6 +1,5 @@
-//! Scripts of questions, and their answers line for line. docs/FORMAT.md describes both, but for a statement that these
-//! scripts alone have: `taken` prints how many numbers the document of the last `judge` or `run` took, `taken N`, or
-//! `taken none` if it was refused or there was none yet. It leaves `show` as it was.
+//! Scripts of questions, and their answers line for line. docs/FORMAT.md describes both; the statement `taken` is one of
+//! these scripts alone, which the program `goosedawn` does not know.
 
 use crate::contract::Contract;
 use crate::engine::{Answer, Engine};

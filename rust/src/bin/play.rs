@@ -9,7 +9,7 @@ const USAGE: &str = "\
 usage: play [SCRIPT]
 
 Plays the script in the file SCRIPT, or the one on standard input where no file is named, on the proved library, and
-prints its answers. The statements are those of docs/FORMAT.md, and one more:
+prints its answers. docs/FORMAT.md lists the statements. Beside those of the program `goosedawn` there is
 
     taken    prints how many numbers the last judge or run took: `taken N`, or `taken none` if it was refused
 

@@ -1,6 +1,6 @@
 -- Each refusal is the definition's; where nothing is refused the contract is established and the first numbers are a document, so
 -- that the contract can be prepared and the document judged by it.
-use mathlib.Core.Path.{_≡_, ap, sym, _∙_}
+use mathlib.Core.Path.{ap, sym, _∙_}
 use native.Mathlib.Omega.{arith}
 use lib.Seq.{length-take-le}
 use borrow.Author.Needs.{needs}

@@ -20,10 +20,10 @@ use Rattle.model.specs.Judging.{judgingVerdict}
 use Rattle.model.specs.Checking.{checkingVerdict}
 use Rattle.model.specs.Running.{rowsWrong, runningVerdict}
 use Rattle.model.specs.WritingOut.{writingVerdict}
-use Rattle.model.specs.Refusals.{Reason, NothingWrong, FirstReason, NoReason, RefusesFor, LowestPlace, withNumber, lowest, only, LowestEntry, nodeReasons, NotOfRun, BeginsWith, GoesOn, LeadingDocument, leadingReasons, ReadsLeading, DocumentOf, wholeReasons, ReadsWhole, admissionReasons, judgingReasons, checkingReasons, runningReasons, writingReasons}
+use Rattle.model.specs.Refusals.{Reason, NothingWrong, FirstReason, NoReason, RefusesFor, LowestPlace, withNumber, lowest, only, LowestEntry, nodeReasons, NotOfRun, GoesOn, LeadingDocument, leadingReasons, ReadsLeading, ReadsWhole, admissionReasons, judgingReasons, checkingReasons, runningReasons, writingReasons}
 use Rattle.model.proofs.Laws.Answers.{refused-not-fine, then-fine, then-passed, Only, refuse-if-fine, refuse-if-passed, refuse-if-told, refuse-if-only, refuse-if-refused, refuse-first-at, refuse-lowest-at, refuse-lowest-told, Numbers, then-numbers, refused-numbers, refuse-if-numbers, refuse-first-numbers}
 use Rattle.model.proofs.Laws.Admitted.{established, admission-numbers, not-late}
-use Rattle.model.proofs.Laws.Documents.{Leads, ends-taken, leading-fine, ends-fine, reading-followed, leading-tree-followed}
+use Rattle.model.proofs.Laws.Documents.{ends-taken, leading-fine, ends-fine, reading-followed, leading-tree-followed}
 use Rattle.model.proofs.Meaning.Faults.{endless-means, fault-only, fault-exactly}
 
 -- Reasons one behind another
