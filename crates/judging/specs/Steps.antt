@@ -20,9 +20,8 @@ use Rattle.model.proofs.Laws.Documents.{Document, Leads, leading-fine}
 use Rattle.answers.specs.Numbers.{contractRefusal, documentRefusal}
 use Rattle.answers.specs.declared.ContractFault.{ContractFault}
 use Rattle.answers.specs.declared.DocumentFault.{DocumentFault}
-use Rattle.answers.specs.declared.DocumentFault.the-variants as document-fault
 use Rattle.reading.specs.declared.Reading.{Reading}
-use Rattle.reading.specs.Answers.{faultVerdict, readingVerdict, takenOf}
+use Rattle.reading.specs.Answers.{faultVerdict, fault-given, readingVerdict, takenOf}
 use Rattle.answers.proofs.Answered.{refused-as}
 use Rattle.breaking.specs.declared.Verdicts.{Verdicts}
 use Rattle.breaking.specs.Verdicts.{VerdictsOf, accepting, breaking, accepting-is, breaking-is}
@@ -46,7 +45,8 @@ abbrev pub told : Verdicts → List ℕ → ℕ
 told v kind = judgementBy (accepting (v .accepted) kind) (breaking (v .accepted) (v .refused) kind)
 
 -- which is the judgement; the kind of a tree is held with a sixth word, and written without
-pub comes-judged : (C : Contract) (v : Verdicts) (t : Tree) (result taken : ℕ) (held written : List ℕ) → Established C → VerdictsOf (C .input .marks) (C .output .marks) v
+pub comes-judged : (C : Contract) (v : Verdicts) (t : Tree) (result taken : ℕ) (held written : List ℕ) → Established C
+    → VerdictsOf (C .input .marks) (C .output .marks) v
     → held ≡ kindOf C t ++ (0 ∷ [])
     → written ≡ take 5 held
     → result ≡ told v held
@@ -75,9 +75,14 @@ taken-read C numbers reading taken verdict takes passes e =
     let same : taken ≡ numbersTaken (C .transformation .symbols) numbers = e ∙ takes in
     record { passes = fits; same = same; leads = rw same (leading-fine (C .transformation .symbols) numbers fits) }
 
--- also of a contract that is this one
-pub document-in : (C D : Contract) (taken : ℕ) (numbers : List ℕ) → D ≡ C → Taken C taken numbers → Document (D .transformation .symbols) (take taken numbers)
-document-in C D taken numbers e d = subst (λ (D : Contract). Document (D .transformation .symbols) (take taken numbers)) (sym e) (d .leads .document)
+module _ {C : Contract} {taken : ℕ} {numbers : List ℕ} (d : Taken C taken numbers) where
+  -- the numbers taken are there
+  pub all-taken : length (take taken numbers) ≡ taken
+  all-taken = length-take-le taken numbers (d .leads .within)
+
+  -- and are a document, also of a contract that is this one
+  pub document-in : (D : Contract) → D ≡ C → Document (D .transformation .symbols) (take taken numbers)
+  document-in D e = subst (λ (D : Contract). Document (D .transformation .symbols) (take taken numbers)) (sym e) (d .leads .document)
 
 -- nothing is refused
 pub record LetIn (C : Contract) (taken : ℕ) (numbers buffer : List ℕ) : Type 0 where
@@ -99,11 +104,14 @@ module _ (C : Contract) (numbers buffer : List ℕ) where
   unfolding judging judgingVerdict given _then_ refuseIf
   refused-buffer e ne = record { answers = rw (e, ne-eqb (length buffer) 5 ne); closes = rw (e, ne-eqb (length buffer) 5 ne) }
 
-  pub refused-document : admission C ≡ fine → length buffer ≡ 5 → (fault : DocumentFault) → faultVerdict fault ≡ leadingVerdict (C .transformation .symbols) numbers
+  pub refused-document : admission C ≡ fine → length buffer ≡ 5 → (fault : DocumentFault)
+      → faultVerdict fault ≡ leadingVerdict (C .transformation .symbols) numbers
       → Comes (documentRefusal fault) buffer (judging C numbers buffer)
-  unfolding judging judgingVerdict given _then_ refuseIf
-  refused-document e l (document-fault.Length n) d = record { answers = rw (e, eq-eqb (length buffer) 5 l, ← d); closes = rw (e, eq-eqb (length buffer) 5 l, ← d) }
-  refused-document e l (document-fault.Number n) d = record { answers = rw (e, eq-eqb (length buffer) 5 l, ← d); closes = rw (e, eq-eqb (length buffer) 5 l, ← d) }
+  unfolding judging judgingVerdict _then_ refuseIf
+  refused-document e l fault d =
+      let q : judging C numbers buffer ≡ record { answer = documentRefusal fault; words = buffer } =
+      rw (e, eq-eqb (length buffer) 5 l, ← d) (fault-given fault (λ (a : Answer). record { answer = a; words = buffer }) _) in
+      rw q (record { answers = refl; closes = refl })
 
   -- with nothing refused, the judgement of the numbers taken by a contract that is this one
   pub judged-document : {taken : ℕ} → LetIn C taken numbers buffer → {answer : Answer} {words : List ℕ} (D : Contract) → D ≡ C
@@ -112,7 +120,6 @@ module _ (C : Contract) (numbers buffer : List ℕ) where
   unfolding judging judgingVerdict leadingTree given _then_ refuseIf
   judged-document {taken} l D same comes =
       let S : ℕ = C .transformation .symbols in
-      let whole : length (take taken numbers) ≡ taken = length-take-le taken numbers (l .read .leads .within) in
       let q : judging C numbers buffer ≡ judgedTree C (documentTree (take (numbersTaken S numbers) numbers)) (numbersTaken S numbers) =
       rw (l .passed, eq-eqb (length buffer) 5 (l .five), l .read .passes) in
-      rw (q, ← l .read .same) (rw (same, whole) at comes)
+      rw (q, ← l .read .same) (rw (same, all-taken (l .read)) at comes)

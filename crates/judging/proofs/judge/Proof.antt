@@ -2,14 +2,13 @@
 -- that the contract can be prepared and the document judged by it.
 use mathlib.Core.Path.{ap, sym, _∙_}
 use native.Mathlib.Omega.{arith}
-use lib.Seq.{length-take-le}
 use borrow.Author.Needs.{needs}
 use Rattle.model.specs.Tables.{Contract, contract}
 use Rattle.answers.specs.Numbers.{admissionAnswer}
 use Rattle.admission.proofs.Answered.{admitted-fine, admitted-established}
 use Rattle.reading.specs.Answers.{readingVerdict}
 use Rattle.preparing.specs.Packing.{short, room-enough}
-use Rattle.judging.specs.Steps.{LetIn, taken-read, document-in, refused-contract, refused-buffer, refused-document, judged-document}
+use Rattle.judging.specs.Steps.{LetIn, taken-read, all-taken, document-in, refused-contract, refused-buffer, refused-document, judged-document}
 use Rattle.judging.proofs.judge.Statement.{statement}
 use Rattle.judging.proofs.judge.Tie as tie
 
@@ -72,13 +71,13 @@ slice-aggregate-judge-prepared : tie.Need-slice-aggregate-judge-prepared
 slice-aggregate-judge-prepared c = search needs
 
 slice-aggregate-judge-prepared-2 : tie.Need-slice-aggregate-judge-prepared-2
-slice-aggregate-judge-prepared-2 c = sym (length-take-le (c .before .before .before .before .before .before .before .before .before .taken-of .result) (c .before .before .before .before .before .before .before .before .before .before .before .before .before .before .before .before .before .before .before .before .before .before .before .before .before .before .args .numbers .now) (let-in (c .before .before .before .before .before .before .before .before .before) .read .leads .within))
+slice-aggregate-judge-prepared-2 c = sym (all-taken (let-in (c .before .before .before .before .before .before .before .before .before) .read))
 
 judge-prepared-requires : tie.Need-judge-prepared-requires
 judge-prepared-requires c κs =
     let made = c .before .before .before .before .prepare .ensures in
     let past = let-in (c .before .before .before .before .before .before .before .before .before .before) in
-    (made .ready, document-in _ _ _ _ (made .contract) (past .read), past .five)
+    (made .ready, document-in (past .read) _ (made .contract), past .five)
 
 same-length : tie.Need-same-length
 same-length c = search needs
@@ -99,13 +98,13 @@ slice-aggregate-judge-prepared-3 : tie.Need-slice-aggregate-judge-prepared-3
 slice-aggregate-judge-prepared-3 c = search needs
 
 slice-aggregate-judge-prepared-4 : tie.Need-slice-aggregate-judge-prepared-4
-slice-aggregate-judge-prepared-4 c = sym (length-take-le (c .before .before .before .before .before .before .before .before .before .before .taken-of .result) (c .before .before .before .before .before .before .before .before .before .before .before .before .before .before .before .before .before .before .before .before .before .before .before .before .before .before .before .args .numbers .now) (let-in (c .before .before .before .before .before .before .before .before .before .before) .read .leads .within))
+slice-aggregate-judge-prepared-4 c = sym (all-taken (let-in (c .before .before .before .before .before .before .before .before .before .before) .read))
 
 judge-prepared-requires-2 : tie.Need-judge-prepared-requires-2
 judge-prepared-requires-2 c κs =
     let made = c .before .before .before .before .prepare2 .ensures in
     let past = let-in (c .before .before .before .before .before .before .before .before .before .before .before) in
-    (made .ready, document-in _ _ _ _ (made .contract) (past .read), past .five)
+    (made .ready, document-in (past .read) _ (made .contract), past .five)
 
 same-length-2 : tie.Need-same-length-2
 same-length-2 c = search needs

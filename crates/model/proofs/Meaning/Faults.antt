@@ -170,7 +170,8 @@ module _ (S : ℕ) (xs : List ℕ) (m : ℕ) where
       record {
         symbols = λ j l. rw (getD-take m xs j 0 (omega arith)) at (g .symbols j l);
         notEnded = λ e.
-            g .notEnded (record { tree = e .tree; taken = e .taken; begins = begins-already (e .tree) (e .taken) (omega (arith, e .within)) (e .begins); within = e .within });
+            let begins = begins-already (e .tree) (e .taken) (omega (arith, e .within)) (e .begins) in
+            g .notEnded (record { tree = e .tree; taken = e .taken; begins = begins; within = e .within });
       }
 
   goes-on-already : (n : ℕ) → n ≤ m → GoesOn S xs n → GoesOn S (take m xs) n

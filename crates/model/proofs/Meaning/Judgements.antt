@@ -105,7 +105,8 @@ module _ (C : Contract) (numbers buffer : List ℕ) where
       → answered ≡ record { answer = judged (judgement C (kindOf C t)) n; words = kindOf C t }
   judged-document good five t n d =
       passed (fits good five t n d)
-      ∙ ap₂ (λ (u : Tree) (k : ℕ). record { answer = judged (judgement C (kindOf C u)) k; words = kindOf C u }) (reads good .tree t n d) (reads good .taken t n d)
+      ∙ ap₂ (λ (u : Tree) (k : ℕ). record { answer = judged (judgement C (kindOf C u)) k; words = kindOf C u })
+      (reads good .tree t n d) (reads good .taken t n d)
 
   pub judging-means : JudgingMeans C numbers buffer (judging C numbers buffer .answer) (judging C numbers buffer .words)
   judging-means =

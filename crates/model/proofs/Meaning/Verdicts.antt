@@ -329,7 +329,8 @@ module _ (S : ℕ) (numbers : List ℕ) where
                 let (few, rest) = then-fine _ _ e in
                 let (read, all) = then-fine _ _ rest in
                 let l = leading-fine S numbers read in
-                let same : numbersTaken S numbers ≡ length numbers = omega (arith, ltb-false (numbersTaken S numbers) (length numbers) (refuse-if-fine _ 12 _ all), l .within) in
+                let none = ltb-false (numbersTaken S numbers) (length numbers) (refuse-if-fine _ 12 _ all) in
+                let same : numbersTaken S numbers ≡ length numbers = omega (arith, none, l .within) in
                 (leadingTree S numbers, subst (LeadingDocument S numbers (leadingTree S numbers)) same (fine-document read)),
             λ (t, d).
                 then-passed _ _ (refuse-if-passed _ 11 _ (le-ltb mostNumbers (length numbers) (d .few)))
