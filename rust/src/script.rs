@@ -16,7 +16,7 @@ const A_STATEMENT: &str = "a statement";
 const A_NUMBER: &str = "a number from 0 to 65535";
 const A_NAME: &str = "a name";
 
-/// What `help` prints.
+/// What `help` prints: the lines of the program `goosedawn`, and one for each statement that these scripts alone have.
 pub const HELP: &str = "\
 case NAME: the label of the answers that follow
 symbols N: how many symbols there are
@@ -30,12 +30,13 @@ output-marks N ..: 1 for each accepted output state, otherwise 0
 nodes N ..: tag, name, child, first, second
 rules N ..: procedure, symbol, node
 admit: admit the contract
-judge N ..: judge a document
+judge N ..: judge the document that the numbers begin with
 check L: check the contract, listing at most L kinds
-run R N ..: run the transformation on a document, with room for R rows
+run R N ..: run the transformation on the document that the numbers begin with, with room for R rows
 rows N ..: the row table that write reads
 write J B: write out the tree of row J, with room for B numbers
 show: the buffers as the last check, run or judge left them
+taken: how many numbers the last judge or run took
 ";
 
 /// A token: where it starts, and its bytes.

@@ -1,4 +1,5 @@
--- Lists: those that are filled with zeros to a length, equality as a test, and tables that are filled entry by entry.
+-- Lists: those that are filled with zeros to a length, parts that end with the list, equality as a test, and tables that are filled
+-- entry by entry.
 use mathlib.Core.Path.{_≡_, refl, ap, ap₂, subst, sym, _∙_}
 use mathlib.Core.List.{List, [], _∷_, _++_}
 use mathlib.Core.Bool.{Bool, true, false}

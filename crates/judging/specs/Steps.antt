@@ -4,7 +4,6 @@ use mathlib.Core.List.{List, [], _∷_, _++_}
 use mathlib.Core.Bool.{Bool}
 use Prim.Native.Nat.{ℕ}
 use lib.ListN.{length, take}
-use lib.Seq.{length-take-le}
 use borrow.Author.Tests.{eq-eqb, ne-eqb}
 use Rattle.foundation.specs.Tests.{choose}
 use Rattle.model.specs.Tables.{Contract}
@@ -16,12 +15,12 @@ use Rattle.model.specs.Admission.{admission, admit}
 use Rattle.model.specs.Judging.{Judged, judgement, judgingVerdict, judging}
 use Rattle.model.proofs.Laws.Answers.{given-stopped}
 use Rattle.model.proofs.Laws.Established.{Established}
-use Rattle.model.proofs.Laws.Documents.{Document, Leads, leading-fine}
+use Rattle.model.proofs.Laws.Documents.{Document}
 use Rattle.answers.specs.Numbers.{contractRefusal, documentRefusal}
 use Rattle.answers.specs.declared.ContractFault.{ContractFault}
 use Rattle.answers.specs.declared.DocumentFault.{DocumentFault}
-use Rattle.reading.specs.declared.Reading.{Reading}
-use Rattle.reading.specs.Answers.{faultVerdict, fault-given, readingVerdict, takenOf}
+use Rattle.reading.specs.Answers.{faultVerdict, fault-given}
+use Rattle.reading.specs.Taken.{Taken, all-taken}
 use Rattle.answers.proofs.Answered.{refused-as}
 use Rattle.breaking.specs.declared.Verdicts.{Verdicts}
 use Rattle.breaking.specs.Verdicts.{VerdictsOf, accepting, breaking, accepting-is, breaking-is}
@@ -57,39 +56,18 @@ comes-judged C v t result taken held written known of kind puts says =
     let is : told v held ≡ judgement C (take 5 held) = ap₂ judgementBy (accepting-is C known v of held) (breaking-is C known v of held) in
     record { answers = ap (λ (r : ℕ). judged r taken) (says ∙ is ∙ ap (judgement C) five); closes = puts ∙ five }
 
--- what reading establishes: the document takes so many numbers, which are one by themselves
-pub record Taken (C : Contract) (taken : ℕ) (numbers : List ℕ) : Type 0 where
-  pub passes : leadingVerdict (C .transformation .symbols) numbers ≡ fine
-  pub same : taken ≡ numbersTaken (C .transformation .symbols) numbers
-  pub leads : Leads (C .transformation .symbols) taken numbers
-
--- by what `read` promises, where it refuses nothing
-pub taken-read : (C : Contract) (numbers : List ℕ) (reading : Reading) (taken : ℕ)
-    → readingVerdict reading ≡ leadingVerdict (C .transformation .symbols) numbers
-    → takenOf reading ≡ numbersTaken (C .transformation .symbols) numbers
-    → readingVerdict reading ≡ fine
-    → taken ≡ takenOf reading
-    → Taken C taken numbers
-taken-read C numbers reading taken verdict takes passes e =
-    let fits : leadingVerdict (C .transformation .symbols) numbers ≡ fine = sym verdict ∙ passes in
-    let same : taken ≡ numbersTaken (C .transformation .symbols) numbers = e ∙ takes in
-    record { passes = fits; same = same; leads = rw same (leading-fine (C .transformation .symbols) numbers fits) }
-
-module _ {C : Contract} {taken : ℕ} {numbers : List ℕ} (d : Taken C taken numbers) where
-  -- the numbers taken are there
-  pub all-taken : length (take taken numbers) ≡ taken
-  all-taken = length-take-le taken numbers (d .leads .within)
-
-  -- and are a document, also of a contract that is this one
-  pub document-in : (D : Contract) → D ≡ C → Document (D .transformation .symbols) (take taken numbers)
-  document-in D e = subst (λ (D : Contract). Document (D .transformation .symbols) (take taken numbers)) (sym e) (d .leads .document)
+-- the numbers taken are a document also of a contract that is this one
+pub document-in : {C : Contract} {taken : ℕ} {numbers : List ℕ} → Taken (C .transformation .symbols) taken numbers → (D : Contract) → D ≡ C
+    → Document (D .transformation .symbols) (take taken numbers)
+document-in {taken = taken} {numbers = numbers} d D e =
+    subst (λ (D : Contract). Document (D .transformation .symbols) (take taken numbers)) (sym e) (d .leads .document)
 
 -- nothing is refused
 pub record LetIn (C : Contract) (taken : ℕ) (numbers buffer : List ℕ) : Type 0 where
   pub passed : admission C ≡ fine
   pub known : Established C
   pub five : length buffer ≡ 5
-  pub read : Taken C taken numbers
+  pub read : Taken (C .transformation .symbols) taken numbers
 
 module _ (C : Contract) (numbers buffer : List ℕ) where
   pub refused-contract : (fault : ContractFault) → contractRefusal fault ≡ admit C → Comes (contractRefusal fault) buffer (judging C numbers buffer)

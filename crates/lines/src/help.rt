@@ -69,7 +69,11 @@ fn append_questions(out: &mut [u8], at: usize) -> usize
     ensures { λ _. ⌜ now (out .exit) ≡ sets (now (out .entry)) at questionsHelp ⌝ }
 {
     let mut place = append(out, at, b"admit: admit the contract\n");
-    place = append(out, place, b"judge N ..: judge a document\n");
+    place = append(
+        out,
+        place,
+        b"judge N ..: judge the document that the numbers begin with\n",
+    );
     place = append(
         out,
         place,
@@ -78,7 +82,7 @@ fn append_questions(out: &mut [u8], at: usize) -> usize
     append(
         out,
         place,
-        b"run R N ..: run the transformation on a document, with room for R rows\n",
+        b"run R N ..: run the transformation on the document that the numbers begin with, with room for R rows\n",
     )
 }
 

@@ -87,14 +87,17 @@ unfoldable pub faultOf : Leading → Verdict
 faultOf (ends at) = fine
 faultOf (faulty at) = refused 12 at
 
--- "11 is given exactly if ..", with document 01's place (the length); 12, ..
+-- of n numbers that begin so: "11 is given exactly if ..", with document 01's place (the length); 12, ..
+abbrev pub verdictOn : ℕ → Leading → Verdict
+verdictOn n leading = refuseIf (endless n leading) 11 n then faultOf leading
+
 unfoldable pub leadingVerdict : ℕ → List ℕ → Verdict
-leadingVerdict S xs = refuseIf (endless (length xs) (reading S xs)) 11 (length xs) then faultOf (reading S xs)
+leadingVerdict S xs = verdictOn (length xs) (reading S xs)
 
 -- a document and nothing else: the leading tree takes all. "11, over 1,023 numbers (the length); 12, the first number not below S or
 -- after the tree has ended, or the length if the tree has not ended"
 unfoldable pub wholeVerdict : ℕ → List ℕ → Verdict
 wholeVerdict S xs =
     refuseIf (ltb mostNumbers (length xs)) 11 (length xs)
-    then leadingVerdict S xs
+    then faultOf (reading S xs)
     then refuseIf (ltb (numbersTaken S xs) (length xs)) 12 (numbersTaken S xs)

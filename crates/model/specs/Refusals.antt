@@ -1,5 +1,6 @@
 -- What refusals say, as statements: of the reasons that document 01 lists, the first that applies is given, with its place. Bad nodes,
--- 30 to 34, are change request W-203's; where document 01 says "1 to 8", admission's reasons are meant.
+-- 30 to 34, are change request W-203's, and 11 and 12 of judging and running W-205's; where document 01 says "1 to 8", admission's
+-- reasons are meant.
 -- proofs/Meaning/Verdicts.antt and Refusals.antt prove them.
 use mathlib.Core.Path.{_≡_}
 use mathlib.Core.Bool.{Bool, true, false}
@@ -13,7 +14,7 @@ use Rattle.model.specs.Rows.{rowAt, rowCount, treeAt}
 use Rattle.model.specs.Facts.{factTotal}
 use Rattle.model.specs.Answers.{Verdict, fine, refused, refusal}
 use Rattle.model.specs.Admission.{sizeWrong, lengthWrong, inputRowWrong, entryWrong, countWrong, tagWrong, nameWrong, childWrong, referenceWrong, unusedFilled, ruleWrong, mostFacts, admit}
-use Rattle.model.specs.Documents.{mostNumbers, numbersTaken, leadingTree, leadingVerdict, wholeVerdict}
+use Rattle.model.specs.Documents.{mostNumbers, documentTree, numbersTaken, leadingTree, leadingVerdict, wholeVerdict}
 use Rattle.model.specs.Judging.{judging}
 use Rattle.model.specs.Checking.{limitWrong, checking}
 use Rattle.model.specs.Running.{rowsWrong, running}
@@ -90,11 +91,13 @@ pub data Fault (S : ℕ) (numbers : List ℕ) (place : ℕ) : Type 0 where
   not-below : GoesOn S numbers place → place < length numbers → S ≤ getD numbers place 0 → Fault S numbers place
   cut-short : GoesOn S numbers place → place ≡ length numbers → Fault S numbers place
 
--- "11 is given exactly if the first 1,023 numbers hold neither a fault nor the end of the tree and more follow", with document 01's
--- place (the length); then 12
+-- "the first 1,023 numbers hold neither a fault nor the end of the tree and more follow"
+abbrev pub Endless : ℕ → List ℕ → Type 0
+Endless S numbers = GoesOn S numbers mostNumbers × (mostNumbers < length numbers)
+
+-- "11 is given exactly if ..", with document 01's place (the length); then 12
 abbrev pub leadingReasons : ℕ → List ℕ → List Reason
-leadingReasons S numbers =
-    only 11 (GoesOn S numbers mostNumbers × (mostNumbers < length numbers)) (length numbers) ∷ withNumber 12 (Fault S numbers) ∷ []
+leadingReasons S numbers = only 11 (Endless S numbers) (length numbers) ∷ withNumber 12 (Fault S numbers) ∷ []
 
 -- "Judging and running use the leading tree": "a document is its symbols in preorder, 1 to 1,023 numbers"
 pub record LeadingDocument (S : ℕ) (numbers : List ℕ) (tree : Tree) (taken : ℕ) : Type 0 where
@@ -117,13 +120,15 @@ DocumentOf S numbers tree = LeadingDocument S numbers tree (length numbers)
 abbrev pub wholeReasons : ℕ → List ℕ → List Reason
 wholeReasons S numbers =
     only 11 (mostNumbers < length numbers) (length numbers)
-    ∷ leadingReasons S numbers
-    ++ (withNumber 12 (λ place. ((tree : Tree) × LeadingDocument S numbers tree place) × (place < length numbers)) ∷ [])
+    ∷ withNumber 12 (Fault S numbers)
+    ∷ withNumber 12 (λ place. ((tree : Tree) × LeadingDocument S numbers tree place) × (place < length numbers))
+    ∷ []
 
--- what is said of numbers that are to be a document and nothing else
+-- what is read of numbers that are to be a document and nothing else
 pub record ReadsWhole (S : ℕ) (numbers : List ℕ) : Type 0 where
   pub refuses : RefusesFor (wholeReasons S numbers) (wholeVerdict S numbers)
   pub passes : (wholeVerdict S numbers ≡ fine) ↔ ((tree : Tree) × DocumentOf S numbers tree)
+  pub tree : (tree : Tree) → DocumentOf S numbers tree → documentTree numbers ≡ tree
 
 -- "30 tag, 31 name, 32 child, 33 a reference not below the node, 34 unused field filled": the faults of node k
 abbrev pub nodeReasons : ℕ → List ℕ → ℕ → Node → List Reason

@@ -104,9 +104,9 @@ pub record Ran : Type 0 where
   pub rows : List ℕ
 
 -- "the buffer is then all 0. Otherwise root row and rows used come back, unused rows 0.", with how many numbers the leading tree took
-unfoldable pub closing : (length taken : ℕ) → Step ℕ → Ran
-closing n taken (made root w) = record { answer = ran root (w .tally .used) taken; rows = zeroFilled n (w .rows) }
-closing n taken (refused number place) = record { answer = refusal number place; rows = replicate n 0 }
+unfoldable pub closing : (lent taken : ℕ) → Step ℕ → Ran
+closing lent taken (made root w) = record { answer = ran root (w .tally .used) taken; rows = zeroFilled lent (w .rows) }
+closing lent taken (refused number place) = record { answer = refusal number place; rows = replicate lent 0 }
 
 -- "no multiple of three or above 12,288"
 abbrev pub rowsWrong : ℕ → Bool

@@ -1,7 +1,7 @@
 -- The readings and verdicts of the model that the code's answers stand for.
 use mathlib.Core.Path.{_≡_, refl}
 use Prim.Native.Nat.{ℕ}
-use Rattle.model.specs.Answers.{Verdict, fine, refused, refuseIf, _then_, Answer, refusal, given}
+use Rattle.model.specs.Answers.{Verdict, fine, refused, Answer, refusal, given}
 use Rattle.model.specs.Documents as model
 use Rattle.answers.specs.declared.DocumentFault.{DocumentFault}
 use Rattle.answers.specs.declared.DocumentFault.the-variants as fault
@@ -28,10 +28,6 @@ readingVerdict (reading.Refused fault) = faultVerdict fault
 abbrev pub takenOf : Reading → ℕ
 takenOf (reading.Takes taken) = taken
 takenOf (reading.Refused fault) = 0
-
--- what is refused of n numbers that begin so
-abbrev pub verdictOn : ℕ → model.Leading → Verdict
-verdictOn n leading = refuseIf (model.endless n leading) 11 n then model.faultOf leading
 
 -- a fault is answered by its refusal, whatever else the answer holds
 pub fault-given : {A : Type 0} (f : DocumentFault) (with-answer : Answer → A) (a : A)

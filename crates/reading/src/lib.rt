@@ -6,9 +6,9 @@
 ghost use mathlib.Core.Path.{_≡_};
 ghost use Prim.Native.Nat.{_+_, _-_, _^_, _≤_, _<_, min};
 ghost use lib.ListN.{length, getD};
-ghost use Rattle.model.specs.Documents.{mostNumbers, faulty, leading, numbersTaken, leadingVerdict};
+ghost use Rattle.model.specs.Documents.{mostNumbers, faulty, leading, numbersTaken, verdictOn, leadingVerdict};
 ghost use Rattle.model.proofs.Laws.Documents.{dueAfter, Readable, endFrom};
-ghost use Rattle.reading.specs.Answers.{leadingOf, faultVerdict, readingVerdict, takenOf, verdictOn};
+ghost use Rattle.reading.specs.Answers.{leadingOf, faultVerdict, readingVerdict, takenOf};
 ghost use Rattle.reading.specs.Ends.{EndsFrom};
 use answers::DocumentFault;
 use tables::Symbol;

@@ -7,7 +7,6 @@ use Prim.Native.Nat.{ℕ, _%_, _≤_}
 use native.Mathlib.Omega.{arith}
 use lib.Dec.{eqb, ltb}
 use lib.ListN.{length, take}
-use lib.Seq.{length-take-le}
 use borrow.Author.Tests.{ltb-false}
 use types.Run.{OneOf}
 use denote.Enum.Declared.{tagOf}
@@ -23,12 +22,13 @@ use Rattle.answers.specs.declared.DocumentFault.{DocumentFault}
 use Rattle.answers.specs.declared.DocumentFault.the-variants as fault
 use Rattle.answers.specs.declared.ContractFault.{ContractFault}
 use Rattle.answers.specs.Numbers.{contractRefusal, documentRefusal}
-use Rattle.model.proofs.Laws.Documents.{Document, some-number, Leads, leading-fine}
+use Rattle.model.proofs.Laws.Documents.{Document, some-number}
 use Rattle.model.proofs.Laws.Established.{Between, Established}
 use Rattle.model.proofs.Laws.Answers.{refuse-if-fine, then-fine, given-stopped}
 use Rattle.model.proofs.Laws.Admitted.{established, admit-fine}
 use Rattle.answers.proofs.Answered.{refused-as}
 use Rattle.reading.specs.Answers.{fault-given}
+use Rattle.reading.specs.Taken.{Taken, taken-fine, all-taken}
 use Rattle.running.specs.declared.Verdict.{Verdict}
 use Rattle.running.specs.declared.Verdict.the-variants as verdict
 use Rattle.running.specs.Work.{verdictOf}
@@ -76,20 +76,20 @@ module _ (T : Transformation) (numbers buffer : List ℕ) (v : Verdict) (said : 
     pub rows-few : length buffer ≤ 12288
     rows-few = ltb-false 12288 (length buffer) (or-second (not (eqb (length buffer % 3) 0)) (ltb 12288 (length buffer)) (refuse-if-fine _ 9 0 (both-fine .0)))
 
-    leads : Leads (T .symbols) taken numbers
-    leads = rw same (leading-fine (T .symbols) numbers (both-fine .1))
+    numbers-taken : Taken (T .symbols) taken numbers
+    numbers-taken = taken-fine (T .symbols) taken numbers (both-fine .1) same
 
-    pub numbers-taken : length (take taken numbers) ≡ taken
-    numbers-taken = length-take-le taken numbers (leads .within)
+    pub taken-there : length (take taken numbers) ≡ taken
+    taken-there = all-taken numbers-taken
 
     pub taken-read : T .symbols ≤ 16 → ReadDocument (take taken numbers)
-    taken-read high = read-document (T .symbols) (take taken numbers) (leads .document) high
+    taken-read high = read-document (T .symbols) (take taken numbers) (numbers-taken .leads .document) high
 
     pub document-run : {answer : Answer} {o : List ℕ}
         → EndsWith (closing (length buffer) (length (take taken numbers)) (run T (rowCount buffer) (documentTree (take taken numbers)))) answer o
         → EndsWith (afterAdmission T numbers buffer) answer o
     unfolding afterAdmission given leadingTree
-    document-run ends = rw (afterAdmission, ← said, passed, ← same) (rw numbers-taken at ends)
+    document-run ends = rw (afterAdmission, ← said, passed, ← same) (rw taken-there at ends)
 
 -- The whole operation
 

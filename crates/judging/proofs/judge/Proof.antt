@@ -7,8 +7,9 @@ use Rattle.model.specs.Tables.{Contract, contract}
 use Rattle.answers.specs.Numbers.{admissionAnswer}
 use Rattle.admission.proofs.Answered.{admitted-fine, admitted-established}
 use Rattle.reading.specs.Answers.{readingVerdict}
+use Rattle.reading.specs.Taken.{taken-fine, all-taken}
 use Rattle.preparing.specs.Packing.{short, room-enough}
-use Rattle.judging.specs.Steps.{LetIn, taken-read, all-taken, document-in, refused-contract, refused-buffer, refused-document, judged-document}
+use Rattle.judging.specs.Steps.{LetIn, document-in, refused-contract, refused-buffer, refused-document, judged-document}
 use Rattle.judging.proofs.judge.Statement.{statement}
 use Rattle.judging.proofs.judge.Tie as tie
 
@@ -55,7 +56,7 @@ let-in c =
       passed = admitted-fine _ _ (c .before .before .before .before .before .enum-told .given .1) (c .before .before .before .before .before .before .before .admit .ensures);
       known = admitted-established _ _ (c .before .before .before .before .before .enum-told .given .1) (c .before .before .before .before .before .before .before .admit .ensures);
       five = omega (arith, c .before .before .before .before .if1 .left);
-      read = taken-read (handed c) _ (c .before .before .before .read .result) _ (c .before .before .before .read .ensures .0) (c .before .before .before .read .ensures .1) (ap readingVerdict (c .before .enum-told2 .given .1)) (c .taken-of .ensures);
+      read = taken-fine _ _ _ (sym (c .before .before .before .read .ensures .0) ∙ ap readingVerdict (c .before .enum-told2 .given .1)) (c .taken-of .ensures ∙ c .before .before .before .read .ensures .1);
     }
 
 table-length-requires : tie.Need-table-length-requires

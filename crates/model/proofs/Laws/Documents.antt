@@ -429,7 +429,7 @@ pub record Leads (S n : ℕ) (xs : List ℕ) : Type 0 where
   pub within : n ≤ length xs
   pub document : Document S (take n xs)
 
-pub reading-leads : (S n : ℕ) (xs : List ℕ) → reading S xs ≡ ends n → Leads S n xs
+reading-leads : (S n : ℕ) (xs : List ℕ) → reading S xs ≡ ends n → Leads S n xs
 unfolding reading
 reading-leads S n xs e =
     let within : n ≤ length (take mostNumbers xs) = leading-ends S n (take mostNumbers xs) e .within in
@@ -443,12 +443,8 @@ pub ends-taken : (S n : ℕ) (xs : List ℕ) → reading S xs ≡ ends n → num
 unfolding numbersTaken
 ends-taken S n xs e = ap takenBy e
 
-pub faulty-taken : (S at : ℕ) (xs : List ℕ) → reading S xs ≡ faulty at → numbersTaken S xs ≡ 0
-unfolding numbersTaken
-faulty-taken S at xs e = ap takenBy e
-
 -- where nothing is refused, the leading tree ends
-pub fine-ends : (S : ℕ) (xs : List ℕ) → leadingVerdict S xs ≡ fine → reading S xs ≡ ends (numbersTaken S xs)
+fine-ends : (S : ℕ) (xs : List ℕ) → leadingVerdict S xs ≡ fine → reading S xs ≡ ends (numbersTaken S xs)
 unfolding leadingVerdict faultOf
 fine-ends S xs e = go (reading S xs) refl (then-fine _ _ e .1)
   where

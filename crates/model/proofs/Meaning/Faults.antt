@@ -13,8 +13,8 @@ use lib.ListN.{length, getD, take, drop, length-take, take-append-drop}
 use lib.Seq.{getD-take, take-append-add}
 use Rattle.model.specs.Trees.{Tree, preorder}
 use Rattle.model.specs.Documents.{mostNumbers, Leading, ends, faulty, leadingFrom, leading, treeOf, reading, endless, faultOf}
-use Rattle.model.specs.Answers.{refused}
-use Rattle.model.specs.Refusals.{BeginsWith, EndsWithin, GoesOn, Fault, not-below, cut-short}
+use Rattle.model.specs.Answers.{Verdict, fine, refused}
+use Rattle.model.specs.Refusals.{BeginsWith, EndsWithin, GoesOn, Fault, not-below, cut-short, Endless}
 use Rattle.model.proofs.Laws.Answers.{refused-not-fine, Only}
 use Rattle.model.proofs.Laws.Rules.{both-true}
 use Rattle.model.proofs.Laws.Documents.{faulty-not-ends, dueAfter, leading-done, leading-short, leading-fault, leading-step, leading-tree, leading-ends, leading-reads}
@@ -68,11 +68,11 @@ module _ (S : ℕ) where
 
 module _ (S : ℕ) (some : 1 ≤ S) where
   -- a tree with whose numbers they begin is the leading one
-  pub begins-leads : (xs : List ℕ) (t : Tree) (n : ℕ) → BeginsWith S xs t n → leading S xs ≡ ends n
+  begins-leads : (xs : List ℕ) (t : Tree) (n : ℕ) → BeginsWith S xs t n → leading S xs ≡ ends n
   begins-leads xs t n b =
       ap (leading S) (b .inPreorder) ∙ leading-tree S t (b .rest) some (b .over) ∙ ap ends (sym (b .took))
 
-  pub leads-begins : (xs : List ℕ) (n : ℕ) → leading S xs ≡ ends n → BeginsWith S xs (treeOf n xs) n
+  leads-begins : (xs : List ℕ) (n : ℕ) → leading S xs ≡ ends n → BeginsWith S xs (treeOf n xs) n
   leads-begins xs n e =
       let l = leading-ends S n xs e in
       record {
@@ -154,7 +154,7 @@ module _ (S : ℕ) (xs : List ℕ) (m : ℕ) where
         took = b .took;
       }
 
-  pub begins-already : (t : Tree) (n : ℕ) → n ≤ m → BeginsWith S xs t n → BeginsWith S (take m xs) t n
+  begins-already : (t : Tree) (n : ℕ) → n ≤ m → BeginsWith S xs t n → BeginsWith S (take m xs) t n
   begins-already t n h b =
       let room : ℕ = m - length (preorder t) in
       let all : length (preorder t) + room ≡ m = omega (arith, b .took) in
@@ -190,19 +190,19 @@ goes-on-less S xs m n h g =
 
 -- What is refused
 
-module _ (S : ℕ) (xs : List ℕ) (some : 1 ≤ S) where
-  -- "the first 1,023 numbers hold neither a fault nor the end of the tree and more follow"
-  abbrev Endless : Type 0
-  Endless = GoesOn S xs mostNumbers × (mostNumbers < length xs)
+abbrev placeOf : Verdict → ℕ
+placeOf fine = 0
+placeOf (refused number place) = place
 
-  endless-told : Endless → endless (length xs) (reading S xs) ≡ true
+module _ (S : ℕ) (xs : List ℕ) (some : 1 ≤ S) where
+  endless-told : Endless S xs → endless (length xs) (reading S xs) ≡ true
   unfolding reading endless
   endless-told (g, more) =
       let all : mostNumbers ≡ length (take mostNumbers xs) = omega (arith, length-take mostNumbers xs) in
       let read = fault-faulty S some (take mostNumbers xs) mostNumbers (cut-short (goes-on-already S xs mostNumbers mostNumbers (omega arith) g) all) in
       rw (read, lt-ltb mostNumbers (length xs) more)
 
-  told-endless : (l : Leading) → reading S xs ≡ l → endless (length xs) l ≡ true → Endless
+  told-endless : (l : Leading) → reading S xs ≡ l → endless (length xs) l ≡ true → Endless S xs
   unfolding reading endless
   told-endless (ends n) r e = absurd (true≢false (sym e))
   told-endless (faulty n) r e =
@@ -213,11 +213,11 @@ module _ (S : ℕ) (xs : List ℕ) (some : 1 ≤ S) where
         ltb-true mostNumbers (length xs) follows,
       )
 
-  pub endless-means : (endless (length xs) (reading S xs) ≡ true) ↔ Endless
+  pub endless-means : (endless (length xs) (reading S xs) ≡ true) ↔ Endless S xs
   endless-means = (told-endless (reading S xs) refl, endless-told)
 
   -- a fault of the first 1,023 numbers is one of all, and conversely, unless they go on behind these
-  fault-means : (Endless → ⊥) → (n : ℕ) → Fault S (take mostNumbers xs) n ↔ Fault S xs n
+  fault-means : (Endless S xs → ⊥) → (n : ℕ) → Fault S (take mostNumbers xs) n ↔ Fault S xs n
   fault-means stops n = (to, from (decLt n mostNumbers))
     where
       few : n ≤ mostNumbers → GoesOn S (take mostNumbers xs) n → GoesOn S xs n
@@ -254,7 +254,7 @@ module _ (S : ℕ) (xs : List ℕ) (some : 1 ≤ S) where
       go (ends n) = inl refl
       go (faulty n) = inr (_, refl)
 
-  pub fault-exactly : (Endless → ⊥) → (place : ℕ) → (faultOf (reading S xs) ≡ refused 12 place) ↔ Fault S xs place
+  pub fault-exactly : (Endless S xs → ⊥) → (place : ℕ) → (faultOf (reading S xs) ≡ refused 12 place) ↔ Fault S xs place
   unfolding reading faultOf
   fault-exactly stops place = (
     λ e. fault-means stops place .0 (told (leading S (take mostNumbers xs)) refl e),
@@ -263,4 +263,4 @@ module _ (S : ℕ) (xs : List ℕ) (some : 1 ≤ S) where
     where
       told : (l : Leading) → leading S (take mostNumbers xs) ≡ l → faultOf l ≡ refused 12 place → Fault S (take mostNumbers xs) place
       told (ends n) r e = absurd (refused-not-fine 12 place (sym e))
-      told (faulty n) r e = let same : n ≡ place = cc in subst (Fault S (take mostNumbers xs)) same (faulty-fault S some (take mostNumbers xs) n r)
+      told (faulty n) r e = subst (Fault S (take mostNumbers xs)) (ap placeOf e) (faulty-fault S some (take mostNumbers xs) n r)

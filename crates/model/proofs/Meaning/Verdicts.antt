@@ -1,26 +1,27 @@
 -- The verdicts of the operations refuse for the reasons that document 01 lists, the first that applies, at its place. What holds of
 -- verdicts one after another, and of a search, is shown once.
 use mathlib.Core.Path.{_≡_, refl, ap, sym, subst, _∙_}
-use mathlib.Core.Bool.{Bool, true, not, true≢false}
+use mathlib.Core.Bool.{Bool, true, false, not, true≢false}
 use mathlib.Core.List.{List, [], _∷_, _++_}
 use mathlib.Core.Logic.{_↔_, _⊎_, inl, inr}
 use Prim.Native.Nat.{ℕ, _<_, _≤_}
 use native.Mathlib.Omega.{arith}
 use borrow.Author.Tests.{ltb-true, ltb-false, lt-ltb, le-ltb, leb-true, le-leb, eq-eqb, ne-eqb}
 use lib.Dec.{ltb, eqb}
-use lib.ListN.{length, drop, length-take, take-append-drop}
+use lib.ListN.{length, take, drop, length-take, take-append-drop}
+use lib.Seq.{take-length}
 use Rattle.foundation.specs.Search.{first, first-at, first-before, first-hit}
 use Rattle.model.specs.Trees.{Tree, preorder}
 use Rattle.model.specs.Tables.{Contract, Node}
 use Rattle.model.specs.Rows.{rowCount, treeAt}
 use Rattle.model.specs.Answers.{Verdict, fine, refused, refuseIf, refuseFirst, refuseLowest, _then_}
 use Rattle.model.specs.Admission.{tagWrong, nameWrong, childWrong, referenceWrong, unusedFilled, nodeFault, lowestNodeFault, mostFacts, sizes, lengths, inputRows, entries, counts, nodes, rules, facts, admission}
-use Rattle.model.specs.Documents.{mostNumbers, Leading, ends, faulty, reading, numbersTaken, leadingTree, faultOf, leadingVerdict, wholeVerdict}
+use Rattle.model.specs.Documents.{mostNumbers, Leading, ends, faulty, documentTree, reading, numbersTaken, leadingTree, faultOf, leadingVerdict, wholeVerdict}
 use Rattle.model.specs.Judging.{judgingVerdict}
 use Rattle.model.specs.Checking.{checkingVerdict}
 use Rattle.model.specs.Running.{rowsWrong, runningVerdict}
 use Rattle.model.specs.WritingOut.{writingVerdict}
-use Rattle.model.specs.Refusals.{Reason, NothingWrong, FirstReason, NoReason, RefusesFor, LowestPlace, withNumber, lowest, only, LowestEntry, nodeReasons, NotOfRun, GoesOn, LeadingDocument, leadingReasons, ReadsLeading, ReadsWhole, admissionReasons, judgingReasons, checkingReasons, runningReasons, writingReasons}
+use Rattle.model.specs.Refusals.{Reason, NothingWrong, FirstReason, NoReason, RefusesFor, LowestPlace, withNumber, lowest, only, LowestEntry, nodeReasons, NotOfRun, Fault, Endless, LeadingDocument, leadingReasons, ReadsLeading, ReadsWhole, admissionReasons, judgingReasons, checkingReasons, runningReasons, writingReasons}
 use Rattle.model.proofs.Laws.Answers.{refused-not-fine, then-fine, then-passed, Only, refuse-if-fine, refuse-if-passed, refuse-if-told, refuse-if-only, refuse-if-refused, refuse-first-at, refuse-lowest-at, refuse-lowest-told, Numbers, then-numbers, refused-numbers, refuse-if-numbers, refuse-first-numbers}
 use Rattle.model.proofs.Laws.Admitted.{established, admission-numbers, not-late}
 use Rattle.model.proofs.Laws.Documents.{ends-taken, leading-fine, ends-fine, reading-followed, leading-tree-followed}
@@ -170,6 +171,10 @@ less m n = (ltb-true m n, lt-ltb m n)
 unequal : (m n : ℕ) → (not (eqb m n) ≡ true) ↔ (m ≡ n → ⊥)
 unequal m n = (λ t e. true≢false (sym t ∙ ap not (eq-eqb m n e)), λ differ. ap not (ne-eqb m n differ))
 
+fails : (test : Bool) → (test ≡ true → ⊥) → test ≡ false
+fails true never = absurd (never refl)
+fails false never = refl
+
 same-test : (test : Bool) → (test ≡ true) ↔ (test ≡ true)
 same-test test = (λ e. e, λ e. e)
 
@@ -177,7 +182,7 @@ same-test test = (λ e. e, λ e. e)
 pub leading-refusals : (S : ℕ) (numbers : List ℕ) → 1 ≤ S → RefusesFor (leadingReasons S numbers) (leadingVerdict S numbers)
 unfolding leadingVerdict
 leading-refusals S numbers some =
-    then-for _ _ _ _ (only-for _ (GoesOn S numbers mostNumbers × (mostNumbers < length numbers)) 11 (length numbers) (endless-means S numbers some))
+    then-for _ _ _ _ (only-for _ (Endless S numbers) 11 (length numbers) (endless-means S numbers some))
     (λ stops.
     one-for _ 12 _ (fault-only S numbers some)
     (fault-exactly S numbers some
@@ -316,25 +321,39 @@ module _ (S : ℕ) (numbers : List ℕ) where
     )
 
     -- a document and nothing else
+    not-endless : refuseIf (ltb mostNumbers (length numbers)) 11 (length numbers) ≡ fine → Endless S numbers → ⊥
+    not-endless few e = omega (arith, e .1, ltb-false mostNumbers (length numbers) (refuse-if-fine _ 11 _ few))
+
+    -- of few numbers, what is refused of the leading tree is its fault
+    few-verdict : refuseIf (ltb mostNumbers (length numbers)) 11 (length numbers) ≡ fine → leadingVerdict S numbers ≡ faultOf (reading S numbers)
+    unfolding leadingVerdict
+    few-verdict few = then-passed _ _ (refuse-if-passed _ 11 _ (fails _ (λ e. not-endless few (endless-means S numbers some .0 e))))
+
+    whole-read : numbersTaken S numbers ≡ length numbers → documentTree numbers ≡ leadingTree S numbers
+    unfolding leadingTree
+    whole-read e = ap documentTree (sym (ap (λ (n : ℕ). take n numbers) e ∙ take-length numbers))
+
     pub reads-whole : ReadsWhole S numbers
     unfolding wholeVerdict
     reads-whole =
         record {
           refuses =
               then-for _ _ _ _ (only-for _ (mostNumbers < length numbers) 11 (length numbers) (less mostNumbers (length numbers))) λ few.
-              then-for _ _ _ _ (leading-refusals S numbers some) λ e.
-              one-for _ 12 _ (refuse-if-only _ 12 _) (followed e);
+              then-for _ _ (withNumber 12 (Fault S numbers) ∷ []) _ (one-for _ 12 _ (fault-only S numbers some) (fault-exactly S numbers some (not-endless few))) λ e.
+              one-for _ 12 _ (refuse-if-only _ 12 _) (followed (few-verdict few ∙ e));
           passes = (
             λ e.
                 let (few, rest) = then-fine _ _ e in
-                let (read, all) = then-fine _ _ rest in
-                let l = leading-fine S numbers read in
+                let (clear, all) = then-fine _ _ rest in
+                let read = few-verdict few ∙ clear in
                 let none = ltb-false (numbersTaken S numbers) (length numbers) (refuse-if-fine _ 12 _ all) in
-                let same : numbersTaken S numbers ≡ length numbers = omega (arith, none, l .within) in
+                let same : numbersTaken S numbers ≡ length numbers = omega (arith, none, leading-fine S numbers read .within) in
                 (leadingTree S numbers, subst (LeadingDocument S numbers (leadingTree S numbers)) same (fine-document read)),
             λ (t, d).
-                then-passed _ _ (refuse-if-passed _ 11 _ (le-ltb mostNumbers (length numbers) (d .few)))
-                ∙ then-passed _ _ (reads-leading .passes .1 (t, length numbers, d))
+                let few = refuse-if-passed _ 11 _ (le-ltb mostNumbers (length numbers) (d .few)) in
+                then-passed _ _ few
+                ∙ then-passed _ _ (sym (few-verdict few) ∙ reads-leading .passes .1 (t, length numbers, d))
                 ∙ refuse-if-passed _ 12 _ (le-ltb (numbersTaken S numbers) (length numbers) (omega (arith, reads-leading .taken t (length numbers) d))),
           );
+          tree = λ t d. whole-read (reads-leading .taken t (length numbers) d) ∙ reads-leading .tree t (length numbers) d;
         }

@@ -7,7 +7,7 @@ use Rattle.model.specs.Running.{rowsWrong}
 use Rattle.model.specs.Tables.{Transformation}
 use Rattle.running.specs.Work.{verdictOf}
 use Rattle.running.specs.Contracts.{transformationOf, beforeWork}
-use Rattle.running.proofs.Admitting.{buffer-refused, document-refused, rows-few, numbers-taken, taken-read, document-run}
+use Rattle.running.proofs.Admitting.{buffer-refused, document-refused, rows-few, taken-there, taken-read, document-run}
 use Rattle.running.proofs.run_admitted.Statement.{statement}
 use Rattle.running.proofs.run_admitted.Tie as tie
 
@@ -40,7 +40,7 @@ enum-told-2 c = search needs
 
 slice-aggregate-run-document : tie.Need-slice-aggregate-run-document
 slice-aggregate-run-document c =
-    sym (numbers-taken (handed (c .before .before .before)) (c .before .before .before .before .before .before .before .before .before .before .before .args .numbers .now) (c .before .before .before .before .before .before .before .before .before .before .before .args .rows .now) _ (said (c .before .before .before)) (c .before .enum-told2 .given .1) _ (c .before .before .before .before .taken-of .ensures ∙ c .before .before .before .before .before .read .ensures .1))
+    sym (taken-there (handed (c .before .before .before)) (c .before .before .before .before .before .before .before .before .before .before .before .args .numbers .now) (c .before .before .before .before .before .before .before .before .before .before .before .args .rows .now) _ (said (c .before .before .before)) (c .before .enum-told2 .given .1) _ (c .before .before .before .before .taken-of .ensures ∙ c .before .before .before .before .before .read .ensures .1))
 
 run-document-requires : tie.Need-run-document-requires
 run-document-requires c κs =
