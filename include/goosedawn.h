@@ -20,7 +20,8 @@
  * A document is its symbols in preorder, 1 to 1023 numbers: symbol 0 stands alone, any other has two trees after it.
  * Judging and running take the document that the numbers begin with, and tell how many numbers it took. What stands
  * behind it is not looked at and may be anything, such as the next document. To go on there, hand in the pointer moved
- * on by the numbers taken and the length less by as many, as examples/c/collector.c does. A refusal takes no number. */
+ * on by the numbers taken and a length that is less by as many, as examples/c/collector.c does. A refusal tells no
+ * numbers taken: its second value is the place. */
 #ifndef GOOSEDAWN_H
 #define GOOSEDAWN_H
 
@@ -78,10 +79,10 @@ typedef struct {
  *   8  over 256 facts: how many there are */
 goosedawn_reply goosedawn_admit(GOOSEDAWN_CONTRACT);
 
-/* Judges the document that the numbers begin with by a contract. The refusals of goosedawn_admit, then
+/* Judges by a contract the document that the numbers begin with. The refusals of goosedawn_admit, then
  *   9   the kind buffer is not five words: 0
  *   11  the first 1023 numbers are symbols, the tree does not end in them, and more follow: how many there are in all
- *   12  the first number of the tree that is no symbol, or the length if the numbers end before the tree does
+ *   12  the first number before the end of the tree that is no symbol, or the length if the numbers end first
  * which write nothing. Otherwise JUDGED, and the kind of the document is written: word 0 has a bit for each input state
  * that it reaches, words 1 to 4 a bit for each fact. The result is 0, not of the input type; 1, of the input type with
  * no output outside the output type; 2, of the input type with such an output. */

@@ -16,7 +16,7 @@ pub enum Answer {
 }
 
 impl Answer {
-    /// How many numbers the document took that was judged or run.
+    /// How many numbers the document took that was judged or run; none for any other answer.
     pub fn taken(self) -> Option<usize> {
         match self {
             Answer::Judged { taken, .. } | Answer::Run { taken, .. } => Some(taken),

@@ -1,5 +1,5 @@
-//! Scripts of questions, and their answers line for line. docs/FORMAT.md describes both; the statement `taken` is one of
-//! these scripts alone, which the program `goosedawn` does not know.
+//! Scripts of questions, and their answers line for line. docs/FORMAT.md describes both; the statement `taken` belongs
+//! to these scripts alone, and the program `goosedawn` does not know it.
 
 use crate::contract::Contract;
 use crate::engine::{Answer, Engine};

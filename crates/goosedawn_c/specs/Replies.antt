@@ -1,4 +1,5 @@
--- The reply of an answer: which answer it is, then its values in document 01's order, and 0 where it has fewer than three.
+-- The reply of an answer: which answer it is, then its values in document 01's order and behind them the numbers taken (W-205), and 0
+-- where it has fewer than three.
 use mathlib.Core.Path.{_≡_}
 use mathlib.Core.List.{List}
 use Prim.Native.Nat.{ℕ}

@@ -1,18 +1,17 @@
--- Calls of `judge` and what a caller may conclude from what came back, whatever was handed in.
-use mathlib.Core.Path.{_≡_, refl, ap, ap₂, subst, sym, _∙_}
-use mathlib.Core.List.{List, [], _∷_, _++_, map, append-assoc}
+-- Calls of `judge` and what a caller may conclude: from one call, whatever was handed in (`judged-call`); from calls one after another
+-- on documents of an admitted contract (`judged-in-turn`).
+use mathlib.Core.Path.{_≡_, ap, ap₂, subst, sym, _∙_}
+use mathlib.Core.List.{List, [], _∷_, _++_, map}
 use Prim.Native.Nat.{ℕ}
-use native.Mathlib.Omega.{arith}
-use lib.ListN.{length, drop}
-use lib.Seq.{drop-append-seam}
+use lib.ListN.{length, drop, length-map}
 use Rattle.model.specs.Trees.{Tree, preorder}
 use Rattle.model.specs.Tables.{Contract}
-use Rattle.model.specs.Answers.{Answer, takenIn}
+use Rattle.model.specs.Answers.{Answer, takenByAnswer}
 use Rattle.model.specs.Documents.{All, preorders}
 use Rattle.model.specs.Judging.{Judged, judging}
 use Rattle.model.specs.Claims.{Admitted}
-use Rattle.model.specs.Meaning.{JudgingMeans, IsDocument}
-use Rattle.model.proofs.Meaning.Judgements.{judging-means, document-judged, judged-alone}
+use Rattle.model.specs.Meaning.{JudgingMeans, IsDocument, InTurn}
+use Rattle.model.proofs.Meaning.Judgements.{judging-means, judges-in-turn}
 use Rattle.judging.specs.Steps.{Comes}
 
 -- a call on a contract: the numbers and the buffer that were lent, and the answer and closing words that came back. The answer is
@@ -33,43 +32,30 @@ judged-call {C} call =
     (subst (λ (w : List ℕ). JudgingMeans C (call .numbers) (call .buffer) (judging C (call .numbers) (call .buffer) .answer) w) (sym (told .closes))
     (judging-means C (call .numbers) (call .buffer)))
 
--- an answer and the closing words, as the definition gives them
+-- a call's answer and closing words, in the definition's form
 abbrev pub outcome : {C : Contract} → Call C → Judged
 outcome call = record { answer = call .answer; words = call .closing }
 
 -- calls one after another on one buffer of numbers: each on what stands behind the tree of the one before, with five words lent
-abbrev pub InTurn : {C : Contract} → (numbers : List ℕ) → List (Call C) → Type 0
-InTurn numbers [] = Unit {0}
-InTurn numbers (call ∷ calls) = (call .numbers ≡ numbers) × (length (call .buffer) ≡ 5) × InTurn (drop (takenIn (call .answer)) numbers) calls
+abbrev pub CallsInTurn : {C : Contract} → (numbers : List ℕ) → List (Call C) → Type 0
+CallsInTurn numbers [] = Unit {0}
+CallsInTurn numbers (call ∷ calls) =
+    (call .numbers ≡ numbers) × (length (call .buffer) ≡ 5) × CallsInTurn (drop (takenByAnswer (call .answer)) numbers) calls
 
--- "Collectors' buffers hold many documents.": such calls on documents laid end to end come to what each document alone would
-pub judged-in-turn : {C : Contract} → Admitted C → (documents : List Tree) (rest other : List ℕ) (calls : List (Call C)) → All (IsDocument C) documents
-    → length other ≡ 5
+-- they are judgements in turn
+in-turn : {C : Contract} (numbers : List ℕ) (calls : List (Call C)) → CallsInTurn numbers calls → InTurn C numbers (map outcome calls)
+in-turn numbers [] turns = tt
+in-turn {C} numbers (call ∷ calls) (same, five, turns) =
+    let comes = call .comes in
+    let is : outcome call ≡ judging C (call .numbers) (call .buffer) =
+    ap₂ (λ (answer : Answer) (words : List ℕ). record { answer = answer; words = words }) (comes .answers) (comes .closes) in
+    ((call .buffer, five, is ∙ ap (λ (xs : List ℕ). judging C xs (call .buffer)) same), in-turn (drop (takenByAnswer (call .answer)) numbers) calls turns)
+
+-- so on documents laid end to end, as many as there are calls, they come to what each document alone would
+pub judged-in-turn : {C : Contract} → Admitted C → (documents : List Tree) (rest : List ℕ) (calls : List (Call C)) → All (IsDocument C) documents
     → length calls ≡ length documents
-    → InTurn (preorders documents ++ rest) calls
-    → map outcome calls ≡ map (λ (t : Tree). judging C (preorder t) other) documents
-unfolding preorders
-judged-in-turn good [] rest other [] all five count turns = refl
-judged-in-turn good [] rest other (call ∷ calls) all five count turns = absurd (omega arith)
-judged-in-turn good (t ∷ documents) rest other [] all five count turns = absurd (omega arith)
-judged-in-turn {C} good (t ∷ documents) rest other (call ∷ calls) all five count turns =
-    ap₂ (λ (j : Judged) (js : List Judged). j ∷ js) (is ∙ judged-alone C good t behind (call .buffer) other (all .0) (turns .1) five)
-    (judged-in-turn good documents rest other calls (all .1) five (omega arith) (subst (λ (xs : List ℕ). InTurn xs calls) left (turns .2)))
-  where
-    behind : List ℕ
-    behind = preorders documents ++ rest
-
-    numbers : (preorder t ++ preorders documents) ++ rest ≡ preorder t ++ behind
-    numbers = append-assoc (preorder t) (preorders documents) rest
-
-    is : outcome call ≡ judging C (preorder t ++ behind) (call .buffer)
-    is =
-        ap₂ (λ (answer : Answer) (words : List ℕ). record { answer = answer; words = words }) (call .comes .answers) (call .comes .closes)
-        ∙ ap (λ (xs : List ℕ). judging C xs (call .buffer)) (turns .0 ∙ numbers)
-
-    left : drop (takenIn (call .answer)) ((preorder t ++ preorders documents) ++ rest) ≡ behind
-    left =
-        ap (λ (n : ℕ). drop n ((preorder t ++ preorders documents) ++ rest))
-        (ap (λ (j : Judged). takenIn (j .answer)) (is ∙ document-judged C good t behind (call .buffer) (all .0) (turns .1)))
-        ∙ ap (drop (length (preorder t))) numbers
-        ∙ drop-append-seam (preorder t) behind
+    → CallsInTurn (preorders documents ++ rest) calls
+    → (words : List ℕ) → length words ≡ 5 → map outcome calls ≡ map (λ (t : Tree). judging C (preorder t) words) documents
+judged-in-turn {C} good documents rest calls all count turns =
+    let as-many : length (map (outcome {C}) calls) ≡ length documents = rw length-map count in
+    judges-in-turn C documents rest (map (outcome {C}) calls) good all as-many (in-turn (preorders documents ++ rest) calls turns)

@@ -20,7 +20,7 @@ use Rattle.answers.specs.Numbers.{contractRefusal, documentRefusal}
 use Rattle.answers.specs.declared.ContractFault.{ContractFault}
 use Rattle.answers.specs.declared.DocumentFault.{DocumentFault}
 use Rattle.reading.specs.Answers.{faultVerdict, fault-given}
-use Rattle.reading.specs.Taken.{Taken, all-taken}
+use Rattle.reading.specs.Taken.{TakesDocument, all-taken}
 use Rattle.answers.proofs.Answered.{refused-as}
 use Rattle.breaking.specs.declared.Verdicts.{Verdicts}
 use Rattle.breaking.specs.Verdicts.{VerdictsOf, accepting, breaking, accepting-is, breaking-is}
@@ -56,18 +56,18 @@ comes-judged C v t result taken held written known of kind puts says =
     let is : told v held ≡ judgement C (take 5 held) = ap₂ judgementBy (accepting-is C known v of held) (breaking-is C known v of held) in
     record { answers = ap (λ (r : ℕ). judged r taken) (says ∙ is ∙ ap (judgement C) five); closes = puts ∙ five }
 
--- the numbers taken are a document also of a contract that is this one
-pub document-in : {C : Contract} {taken : ℕ} {numbers : List ℕ} → Taken (C .transformation .symbols) taken numbers → (D : Contract) → D ≡ C
+-- the numbers taken are a document of D too, where D is this contract
+pub document-in : {C : Contract} {taken : ℕ} {numbers : List ℕ} → TakesDocument (C .transformation .symbols) taken numbers → (D : Contract) → D ≡ C
     → Document (D .transformation .symbols) (take taken numbers)
 document-in {taken = taken} {numbers = numbers} d D e =
     subst (λ (D : Contract). Document (D .transformation .symbols) (take taken numbers)) (sym e) (d .leads .document)
 
--- nothing is refused
+-- what is known where nothing is refused
 pub record LetIn (C : Contract) (taken : ℕ) (numbers buffer : List ℕ) : Type 0 where
   pub passed : admission C ≡ fine
   pub known : Established C
   pub five : length buffer ≡ 5
-  pub read : Taken (C .transformation .symbols) taken numbers
+  pub read : TakesDocument (C .transformation .symbols) taken numbers
 
 module _ (C : Contract) (numbers buffer : List ℕ) where
   pub refused-contract : (fault : ContractFault) → contractRefusal fault ≡ admit C → Comes (contractRefusal fault) buffer (judging C numbers buffer)
@@ -91,7 +91,7 @@ module _ (C : Contract) (numbers buffer : List ℕ) where
       rw (e, eq-eqb (length buffer) 5 l, ← d) (fault-given fault (λ (a : Answer). record { answer = a; words = buffer }) _) in
       rw q (record { answers = refl; closes = refl })
 
-  -- with nothing refused, the judgement of the numbers taken by a contract that is this one
+  -- where nothing is refused: the judgement of the numbers taken, by D, which is this contract
   pub judged-document : {taken : ℕ} → LetIn C taken numbers buffer → {answer : Answer} {words : List ℕ} (D : Contract) → D ≡ C
       → Comes answer words (judgedTree D (documentTree (take taken numbers)) (length (take taken numbers)))
       → Comes answer words (judging C numbers buffer)

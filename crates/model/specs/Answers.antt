@@ -1,4 +1,5 @@
--- Answers: what an operation gives back, in document 01's numbers; and refusals, of which the first that applies is given.
+-- Answers: what an operation gives back, in document 01's numbers, with the numbers taken of change request W-205; and refusals, of
+-- which the first that applies is given.
 use mathlib.Core.Bool.{Bool}
 use Prim.Native.Nat.{ℕ, zero, suc}
 use lib.Dec.{ltb}
@@ -44,15 +45,15 @@ pub data Answer : Type 0 where
   -- number and place
   refusal : (number place : ℕ) → Answer
 
--- "how many numbers it took", where an answer tells it
-abbrev pub takenIn : Answer → ℕ
-takenIn admitted = 0
-takenIn (judged result taken) = taken
-takenIn (tree row) = 0
-takenIn (pass count) = 0
-takenIn (ran root used taken) = taken
-takenIn (written count) = 0
-takenIn (refusal number place) = 0
+-- "how many numbers it took"; 0 where an answer does not tell it
+abbrev pub takenByAnswer : Answer → ℕ
+takenByAnswer admitted = 0
+takenByAnswer (judged result taken) = taken
+takenByAnswer (tree row) = 0
+takenByAnswer (pass count) = 0
+takenByAnswer (ran root used taken) = taken
+takenByAnswer (written count) = 0
+takenByAnswer (refusal number place) = 0
 
 -- what is given where nothing is refused, and otherwise the refusal
 unfoldable pub given {ℓ} : {A : Type ℓ} → Verdict → (ℕ → ℕ → A) → A → A

@@ -1,4 +1,5 @@
--- Documents: the tree that a stretch of numbers begins with, how many numbers it takes, and the fault where there is none.
+-- Documents: the tree that a stretch of numbers begins with, how many numbers it takes, and the fault where there is none. What is
+-- read of numbers that go on behind the tree is change request W-205's.
 use mathlib.Core.Bool.{Bool, false, _&&_}
 use mathlib.Core.List.{List, [], _∷_, _++_}
 use Prim.Native.Nat.{ℕ, zero, suc, _+_, _-_}
@@ -66,13 +67,13 @@ documentTree xs = treeOf (length xs) xs
 unfoldable pub reading : ℕ → List ℕ → Leading
 reading S xs = leading S (take mostNumbers xs)
 
-abbrev pub takenBy : Leading → ℕ
-takenBy (ends n) = n
-takenBy (faulty at) = 0
+abbrev pub takenByLeading : Leading → ℕ
+takenByLeading (ends n) = n
+takenByLeading (faulty at) = 0
 
 -- "how many numbers it took"
 unfoldable pub numbersTaken : ℕ → List ℕ → ℕ
-numbersTaken S xs = takenBy (reading S xs)
+numbersTaken S xs = takenByLeading (reading S xs)
 
 unfoldable pub leadingTree : ℕ → List ℕ → Tree
 leadingTree S xs = documentTree (take (numbersTaken S xs) xs)

@@ -1,12 +1,12 @@
--- Judging the document that what is handed in begins with: the answer and the closing kind buffer.
+-- Judging the document that what is handed in begins with (change request W-205): the answer and the closing kind buffer.
 use mathlib.Core.Bool.{not}
-use mathlib.Core.List.{List, [], _∷_}
-use Prim.Native.Nat.{ℕ, zero, suc}
+use mathlib.Core.List.{List}
+use Prim.Native.Nat.{ℕ}
 use lib.Dec.{eqb}
-use lib.ListN.{length, drop}
+use lib.ListN.{length}
 use Rattle.foundation.specs.Tests.{choose}
 use Rattle.model.specs.Tables.{Contract}
-use Rattle.model.specs.Answers.{Verdict, refuseIf, _then_, Answer, judged, refusal, takenIn, given}
+use Rattle.model.specs.Answers.{Verdict, refuseIf, _then_, Answer, judged, refusal, given}
 use Rattle.model.specs.Admission.{admission}
 use Rattle.model.specs.Documents.{numbersTaken, leadingTree, leadingVerdict}
 use Rattle.model.specs.Kinds.{kindOf, ofInputType, breaks}
@@ -31,11 +31,3 @@ module _ (C : Contract) where
       let kind : List ℕ = kindOf C (leadingTree S numbers) in
       given (judgingVerdict numbers buffer) (λ number place. record { answer = refusal number place; words = buffer })
       (record { answer = judged (judgement kind) (numbersTaken S numbers); words = kind })
-
-  -- "Collectors' buffers hold many documents.": judging one n times, each time from where the last tree ended, with the kind buffer as
-  -- it was left
-  unfoldable pub judgingInTurn : ℕ → (numbers buffer : List ℕ) → List Judged
-  judgingInTurn zero numbers buffer = []
-  judgingInTurn (suc n) numbers buffer =
-      let now : Judged = judging numbers buffer in
-      now ∷ judgingInTurn n (drop (takenIn (now .answer)) numbers) (now .words)

@@ -5,16 +5,16 @@ use mathlib.Core.List.{List, [], _∷_, _++_, map}
 use mathlib.Core.Logic.{_↔_}
 use Prim.Native.Nat.{ℕ, suc, _*_, _<_, _≤_}
 use lib.Dec.{T}
-use lib.ListN.{length, getD, take, replicate}
+use lib.ListN.{length, getD, take, drop, replicate}
 use Rattle.model.specs.Trees.{Tree, height, Over, preorder}
-use Rattle.model.specs.Documents.{mostNumbers, preorders}
+use Rattle.model.specs.Documents.{mostNumbers, All, preorders}
 use Rattle.model.specs.Rows.{rowCount, treeAt}
 use Rattle.model.specs.Tables.{Contract}
-use Rattle.model.specs.Answers.{Answer, judged, tree, pass, refusal}
+use Rattle.model.specs.Answers.{Answer, judged, tree, pass, refusal, takenByAnswer}
 use Rattle.model.specs.Kinds.{emptyKind, kindOf, breaks}
 use Rattle.model.specs.Rounds.{kindAutomaton, ListedKind, kindAt, rounds}
 use Rattle.model.specs.Checking.{greatestLimit, Checked, standing, checking}
-use Rattle.model.specs.Judging.{judging, judgingInTurn}
+use Rattle.model.specs.Judging.{Judged, judging}
 use Rattle.model.specs.Outputs.{Output}
 use Rattle.model.specs.Running.{mostCalls, running}
 use Rattle.model.specs.Refusals.{LeadingDocument, judgingReasons, Refuses}
@@ -51,15 +51,30 @@ pub record JudgingMeans (C : Contract) (numbers buffer : List ℕ) (answer : Ans
       → words ≡ kindOf C t
   pub refuses : Refuses (judgingReasons C numbers buffer) (λ number place. answer ≡ refusal number place) (buffer ∷ []) (words ∷ [])
 
--- a tree that is some document's: "1 to 1,023 numbers"
+-- a tree whose numbers are a document: "1 to 1,023 numbers"
 abbrev pub IsDocument : Contract → Tree → Type 0
 IsDocument C t = TreeOf C t × (length (preorder t) ≤ mostNumbers)
 
--- documents laid end to end, whatever stands behind them: judged one after another, each from where the last one ended, they are judged
--- in their order, as each is alone, whatever the kind buffers held
-abbrev pub JudgesInTurn : Contract → List Tree → (rest buffer other : List ℕ) → Type 0
-JudgesInTurn C documents rest buffer other =
-    judgingInTurn C (length documents) (preorders documents ++ rest) buffer ≡ map (λ (t : Tree). judging C (preorder t) other) documents
+-- "Collectors' buffers hold many documents." (W-205): judgements one after another on one buffer, each of what stands behind the tree of
+-- the one before, with five words lent
+abbrev pub InTurn : Contract → (numbers : List ℕ) → List Judged → Type 0
+InTurn C numbers [] = Unit {0}
+InTurn C numbers (j ∷ js) =
+    ((buffer : List ℕ) × (length buffer ≡ 5) × (j ≡ judging C numbers buffer)) × InTurn C (drop (takenByAnswer (j .answer)) numbers) js
+
+-- of an admitted contract: judgements in turn on documents laid end to end are, in their order, those of each document alone, whatever
+-- stands behind them and whatever the words held
+abbrev pub JudgesInTurn : Contract → (documents : List Tree) (rest : List ℕ) → List Judged → Type 0
+JudgesInTurn C documents rest js =
+    Admitted C → All (IsDocument C) documents → length js ≡ length documents → InTurn C (preorders documents ++ rest) js
+    → (words : List ℕ) → length words ≡ 5 → js ≡ map (λ (t : Tree). judging C (preorder t) words) documents
+
+-- a document is judged as it is alone, and run as it is alone, whatever follows it
+abbrev pub JudgedAlone : Contract → Tree → (rest buffer : List ℕ) → Type 0
+JudgedAlone C t rest buffer = Admitted C → IsDocument C t → judging C (preorder t ++ rest) buffer ≡ judging C (preorder t) buffer
+
+abbrev pub RunAlone : Contract → Tree → (rest buffer : List ℕ) → Type 0
+RunAlone C t rest buffer = Admitted C → IsDocument C t → running C (preorder t ++ rest) buffer ≡ running C (preorder t) buffer
 
 -- lists, read with a default that no statement depends on: no entry stands twice; an entry stands there
 pub record AllDiffer {A : Type 0} (default : A) (entries : List A) : Type 0 where

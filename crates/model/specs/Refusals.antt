@@ -129,6 +129,7 @@ pub record ReadsWhole (S : ℕ) (numbers : List ℕ) : Type 0 where
   pub refuses : RefusesFor (wholeReasons S numbers) (wholeVerdict S numbers)
   pub passes : (wholeVerdict S numbers ≡ fine) ↔ ((tree : Tree) × DocumentOf S numbers tree)
   pub tree : (tree : Tree) → DocumentOf S numbers tree → documentTree numbers ≡ tree
+  pub inPreorder : (tree : Tree) → DocumentOf S numbers tree → numbers ≡ preorder tree
 
 -- "30 tag, 31 name, 32 child, 33 a reference not below the node, 34 unused field filled": the faults of node k
 abbrev pub nodeReasons : ℕ → List ℕ → ℕ → Node → List Reason

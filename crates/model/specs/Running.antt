@@ -1,4 +1,5 @@
--- Running a transformation on the document that what is handed in begins with: the order of work, the answer and the closing row buffer.
+-- Running a transformation on the document that what is handed in begins with (change request W-205): the order of work, the answer
+-- and the closing row buffer.
 use mathlib.Core.Bool.{Bool, not, _&&_, _||_}
 use mathlib.Core.List.{List, [], _∷_, _++_}
 use Prim.Native.Nat.{ℕ, suc, _+_, _%_}

@@ -19,7 +19,7 @@ pub tree-there : (n at : ℕ) → fine ≡ verdictOn n (model.ends at)
 unfolding model.endless model.faultOf refuseIf _then_
 tree-there n at = refl
 
--- 11 and 12 go by a test between them, which names the most numbers a second time
+-- one test parts 11 from 12; its second bound is a parameter, so that a wrong one fails there
 module _ (n at most : ℕ) where
   pub too-long : mostNumbers ≤ most → (eqb at mostNumbers && ltb most n) ≡ true → refused 11 n ≡ verdictOn n (model.faulty at)
   unfolding model.endless refuseIf _then_
@@ -44,6 +44,6 @@ module _ (S : ℕ) (xs : List ℕ) (end : ℕ) (l : model.Leading) (looked : end
   unfolding leadingVerdict
   verdict-begins = ap (verdictOn (length xs)) (sym read-begins)
 
-  pub taken-begins : model.takenBy l ≡ numbersTaken S xs
+  pub taken-begins : model.takenByLeading l ≡ numbersTaken S xs
   unfolding numbersTaken
-  taken-begins = ap model.takenBy (sym read-begins)
+  taken-begins = ap model.takenByLeading (sym read-begins)

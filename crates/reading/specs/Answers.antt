@@ -25,9 +25,9 @@ readingVerdict (reading.Takes taken) = fine
 readingVerdict (reading.Refused fault) = faultVerdict fault
 
 -- how many numbers were taken
-abbrev pub takenOf : Reading → ℕ
-takenOf (reading.Takes taken) = taken
-takenOf (reading.Refused fault) = 0
+abbrev pub takenByReading : Reading → ℕ
+takenByReading (reading.Takes taken) = taken
+takenByReading (reading.Refused fault) = 0
 
 -- a fault is answered by its refusal, whatever else the answer holds
 pub fault-given : {A : Type 0} (f : DocumentFault) (with-answer : Answer → A) (a : A)

@@ -8,11 +8,14 @@ ghost use Prim.Native.Nat.{_+_, _-_, _^_, _≤_, _<_, min};
 ghost use lib.ListN.{length, getD};
 ghost use Rattle.model.specs.Documents.{mostNumbers, faulty, leading, numbersTaken, verdictOn, leadingVerdict};
 ghost use Rattle.model.proofs.Laws.Documents.{dueAfter, Readable, endFrom};
-ghost use Rattle.reading.specs.Answers.{leadingOf, faultVerdict, readingVerdict, takenOf};
+ghost use Rattle.reading.specs.Answers.{leadingOf, faultVerdict, readingVerdict, takenByReading};
 ghost use Rattle.reading.specs.Ends.{EndsFrom};
 use answers::DocumentFault;
 use tables::Symbol;
 use tables::symbol_wrong;
+
+// The most numbers of a document.
+const MOST_NUMBERS: usize = 1023;
 
 // How a stretch of numbers begins.
 pub enum Leading {
@@ -71,14 +74,14 @@ pub fn leading_tree(symbols: usize, numbers: &[u16]) -> Leading
 fn looked_at(length: usize) -> usize
     ensures { λ r. ⌜ r ≡ min mostNumbers length ⌝ }
 {
-    if length < 1023 { length } else { 1023 }
+    if length < MOST_NUMBERS { length } else { MOST_NUMBERS }
 }
 
 // What is refused where the numbers looked at have a fault: 11 if they go on to the last of them and more follow, otherwise 12.
 fn fault_of(length: usize, place: usize) -> DocumentFault
     ensures { λ r. ⌜ faultVerdict r ≡ verdictOn length (faulty place) ⌝ }
 {
-    if (place == 1023) & (1023 < length) {
+    if (place == MOST_NUMBERS) & (MOST_NUMBERS < length) {
         return DocumentFault::Length(length);
     }
     DocumentFault::Number(place)
@@ -87,7 +90,7 @@ fn fault_of(length: usize, place: usize) -> DocumentFault
 // Reads the document that the numbers begin with. What stands behind its tree, or behind the first 1,023 numbers, is not looked at.
 pub fn read(symbols: usize, numbers: &[u16]) -> Reading
     ensures { λ r. ⌜ readingVerdict r ≡ leadingVerdict symbols (now (numbers .entry)) ⌝ }
-    ensures { λ r. ⌜ takenOf r ≡ numbersTaken symbols (now (numbers .entry)) ⌝ }
+    ensures { λ r. ⌜ takenByReading r ≡ numbersTaken symbols (now (numbers .entry)) ⌝ }
 {
     let length = numbers.len();
     let end = looked_at(length);
@@ -99,7 +102,7 @@ pub fn read(symbols: usize, numbers: &[u16]) -> Reading
 
 // How many numbers were taken; none where the document is refused.
 pub fn taken_of(reading: Reading) -> usize
-    ensures { λ r. ⌜ r ≡ takenOf reading ⌝ }
+    ensures { λ r. ⌜ r ≡ takenByReading reading ⌝ }
 {
     match reading {
         Reading::Takes(taken) => taken,

@@ -28,7 +28,7 @@ use Rattle.model.proofs.Laws.Answers.{refuse-if-fine, then-fine, given-stopped}
 use Rattle.model.proofs.Laws.Admitted.{established, admit-fine}
 use Rattle.answers.proofs.Answered.{refused-as}
 use Rattle.reading.specs.Answers.{fault-given}
-use Rattle.reading.specs.Taken.{Taken, taken-fine, all-taken}
+use Rattle.reading.specs.Taken.{TakesDocument, taken-fine, all-taken}
 use Rattle.running.specs.declared.Verdict.{Verdict}
 use Rattle.running.specs.declared.Verdict.the-variants as verdict
 use Rattle.running.specs.Work.{verdictOf}
@@ -76,7 +76,7 @@ module _ (T : Transformation) (numbers buffer : List ℕ) (v : Verdict) (said : 
     pub rows-few : length buffer ≤ 12288
     rows-few = ltb-false 12288 (length buffer) (or-second (not (eqb (length buffer % 3) 0)) (ltb 12288 (length buffer)) (refuse-if-fine _ 9 0 (both-fine .0)))
 
-    numbers-taken : Taken (T .symbols) taken numbers
+    numbers-taken : TakesDocument (T .symbols) taken numbers
     numbers-taken = taken-fine (T .symbols) taken numbers (both-fine .1) same
 
     pub taken-there : length (take taken numbers) ≡ taken

@@ -409,8 +409,8 @@ fn verdict_before(reading: Reading, lent: usize) -> Verdict
     ensures { λ r. ⌜ verdictOf r ≡ (refuseIf (rowsWrong lent) 9 0 then readingVerdict reading) ⌝ }
 {
     let buffer = buffer_verdict(lent);
-    let text = document_verdict(reading);
-    first_refusal(buffer, text)
+    let document = document_verdict(reading);
+    first_refusal(buffer, document)
 }
 
 // Runs an admitted transformation, where neither the buffer nor the document is refused; nothing is written where one is.

@@ -1,4 +1,5 @@
--- X1 to X8, X10 and X12 of document 01, its sizes, the faults of nodes, leading trees and its false readings, as one table; the checker computes every answer of it.
+-- X1 to X8 and X12 of document 01, X10 as W-205 answers it, document 01's sizes and false readings, the faults of nodes, and leading
+-- trees, as one table; the checker computes every answer of it.
 use mathlib.Core.Path.{_≡_, refl}
 use mathlib.Core.List.{List, [], _∷_, _++_, map}
 use Prim.Native.Nat.{ℕ, _*_}

@@ -2,7 +2,9 @@
 
 use goosedawn::library::Library;
 use goosedawn::script::play;
-use std::io::{stdin, Read, Result};
+use std::ffi::{OsStr, OsString};
+use std::io::{stdin, stdout, Error, Read, Result, Write};
+use std::path::Path;
 use std::process::ExitCode;
 
 const USAGE: &str = "\
@@ -13,13 +15,14 @@ prints its answers. docs/FORMAT.md lists the statements. Beside those of the pro
 
     taken    prints how many numbers the last judge or run took: `taken N`, or `taken none` if it was refused
 
-The status is 0, or 2 if the script has a fault, which the last line names, or if it cannot be read.
+The status is 0; or 2 if the script has a fault, which the last line names, if it cannot be read or its answers cannot be
+printed, or if there is more than one argument.
 ";
 
-/// A script with a fault, or none that could be read.
-const FAULT: u8 = 2;
+/// The status where something is wrong.
+const WRONG: u8 = 2;
 
-fn read(file: Option<&str>) -> Result<Vec<u8>> {
+fn read(file: Option<&OsStr>) -> Result<Vec<u8>> {
     match file {
         Some(path) => std::fs::read(path),
         None => {
@@ -30,33 +33,41 @@ fn read(file: Option<&str>) -> Result<Vec<u8>> {
     }
 }
 
+fn wrong(what: &str, error: &Error) -> ExitCode {
+    eprintln!("{what}: {error}");
+    ExitCode::from(WRONG)
+}
+
+fn print(text: &str, status: ExitCode) -> ExitCode {
+    match stdout().write_all(text.as_bytes()) {
+        Ok(()) => status,
+        Err(error) => wrong("standard output", &error),
+    }
+}
+
 /// Plays the script of a file, or of standard input, and prints its answers.
-fn print_answers(file: Option<&str>) -> ExitCode {
+fn print_answers(file: Option<&OsStr>) -> ExitCode {
     match read(file) {
         Ok(script) => {
             let played = play(&Library::default(), &script);
-            print!("{}", played.said);
-            ExitCode::from(if played.fault { FAULT } else { 0 })
+            print(&played.said, if played.fault { ExitCode::from(WRONG) } else { ExitCode::SUCCESS })
         }
         Err(error) => {
-            eprintln!("{}: {error}", file.unwrap_or("standard input"));
-            ExitCode::from(FAULT)
+            let name = file.map_or("standard input".into(), |path| Path::new(path).display().to_string());
+            wrong(&name, &error)
         }
     }
 }
 
 fn main() -> ExitCode {
-    let words: Vec<String> = std::env::args().skip(1).collect();
+    let words: Vec<OsString> = std::env::args_os().skip(1).collect();
     match words.as_slice() {
         [] => print_answers(None),
-        [word] if word == "-h" || word == "--help" => {
-            print!("{USAGE}");
-            ExitCode::SUCCESS
-        }
+        [word] if word == "-h" || word == "--help" => print(USAGE, ExitCode::SUCCESS),
         [file] => print_answers(Some(file)),
         _ => {
             eprint!("{USAGE}");
-            ExitCode::from(FAULT)
+            ExitCode::from(WRONG)
         }
     }
 }

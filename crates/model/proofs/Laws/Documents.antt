@@ -16,7 +16,7 @@ use Rattle.foundation.specs.Tests.{choose}
 use Rattle.foundation.specs.Lists.{append-nil}
 use Rattle.model.specs.Trees.{Tree, empty, node, height, Over, preorder}
 use Rattle.model.specs.Answers.{fine, refuseIf, _then_}
-use Rattle.model.specs.Documents.{mostNumbers, joined, forest, All, preorders, firstTree, Leading, ends, faulty, leadingFrom, leading, treeOf, documentTree, reading, takenBy, numbersTaken, leadingTree, endless, faultOf, leadingVerdict}
+use Rattle.model.specs.Documents.{mostNumbers, joined, forest, All, preorders, firstTree, Leading, ends, faulty, leadingFrom, leading, treeOf, documentTree, reading, takenByLeading, numbersTaken, leadingTree, endless, faultOf, leadingVerdict}
 use Rattle.model.proofs.Laws.Answers.{refused-not-fine, then-fine}
 
 -- Sizes
@@ -441,7 +441,7 @@ reading-leads S n xs e =
 
 pub ends-taken : (S n : ℕ) (xs : List ℕ) → reading S xs ≡ ends n → numbersTaken S xs ≡ n
 unfolding numbersTaken
-ends-taken S n xs e = ap takenBy e
+ends-taken S n xs e = ap takenByLeading e
 
 -- where nothing is refused, the leading tree ends
 fine-ends : (S : ℕ) (xs : List ℕ) → leadingVerdict S xs ≡ fine → reading S xs ≡ ends (numbersTaken S xs)

@@ -1,27 +1,29 @@
 -- What a result of judging says of the numbers that were handed in.
-use mathlib.Core.Path.{_≡_, refl, ap, ap₂, sym, _∙_}
-use mathlib.Core.Bool.{Bool, true, false}
+use mathlib.Core.Path.{_≡_, refl, ap, ap₂, subst, sym, _∙_}
+use mathlib.Core.Bool.{Bool, true, false, not}
 use mathlib.Core.List.{List, [], _∷_, _++_, append-assoc, append-nil}
 use Prim.Native.Nat.{ℕ, zero, suc, _≤_}
 use native.Mathlib.Omega.{arith}
 use borrow.Author.Tests.{eqb-true, not-false}
+use lib.Dec.{eqb}
 use lib.ListN.{length, drop}
 use lib.Seq.{drop-append-seam}
 use Rattle.foundation.specs.Tests.{choose}
 use Rattle.model.specs.Trees.{Tree, preorder}
 use Rattle.model.specs.Tables.{Contract}
-use Rattle.model.specs.Documents.{All, preorders, numbersTaken, leadingTree}
+use Rattle.model.specs.Documents.{preorders, numbersTaken, leadingTree}
 use Rattle.model.specs.Answers as answers
-use Rattle.model.specs.Answers.{Verdict, fine, judged, refusal, takenIn}
+use Rattle.model.specs.Answers.{Verdict, fine, refuseIf, _then_, judged, refusal, takenByAnswer, given}
 use Rattle.model.specs.Admission.{admission}
 use Rattle.model.specs.Kinds.{kindOf, ofInputType, breaks}
-use Rattle.model.specs.Judging.{Judged, judgement, judgingVerdict, judging, judgingInTurn}
+use Rattle.model.specs.Judging.{Judged, judgement, judgingVerdict, judging}
 use Rattle.model.specs.Refusals.{LeadingDocument, ReadsLeading}
 use Rattle.model.specs.Claims.{Admitted}
-use Rattle.model.specs.Meaning.{Judges, JudgedMeans, JudgedOrRefused, is-judged, is-refused, JudgingMeans, IsDocument, JudgesInTurn}
+use Rattle.model.specs.Meaning.{Judges, JudgedMeans, JudgedOrRefused, is-judged, is-refused, JudgingMeans, IsDocument, InTurn, JudgesInTurn, JudgedAlone}
 use Rattle.model.proofs.Laws.Answers.{then-fine, then-passed, refuse-if-fine, refuse-if-passed, given-fine, given-refused}
 use Rattle.model.proofs.Laws.Admitted.{established}
-use Rattle.model.proofs.Meaning.Kinds.{judgement-exactly, kind-five}
+use Rattle.model.proofs.Laws.Documents.{ends-taken, ends-fine, reading-followed, leading-tree-followed}
+use Rattle.model.proofs.Meaning.Kinds.{judgement-exactly}
 use Rattle.model.proofs.Meaning.Verdicts.{fine-document, reads-leading}
 use Rattle.model.proofs.Meaning.Refusals.{operation-refusals}
 
@@ -139,37 +141,52 @@ module _ (C : Contract) (numbers buffer : List ℕ) where
 
 -- Documents laid end to end
 
-module _ (C : Contract) (good : Admitted C) where
-  -- a document is judged as it is alone, whatever follows it and whatever the kind buffer held
-  pub document-judged : (t : Tree) (rest buffer : List ℕ) → IsDocument C t → length buffer ≡ 5
+-- a document is judged as it is alone
+module _ (C : Contract) (t : Tree) (buffer : List ℕ) (good : Admitted C) (document : IsDocument C t) where
+  document-judged : (rest : List ℕ)
+      → judging C (preorder t ++ rest) buffer
+      ≡ given (admission C then refuseIf (not (eqb (length buffer) 5)) 9 0 then fine)
+      (λ number place. record { answer = refusal number place; words = buffer })
+      (record { answer = judged (judgement C (kindOf C t)) (length (preorder t)); words = kindOf C t })
+  unfolding judging judgingVerdict
+  document-judged rest =
+      let symbols : ℕ = C .transformation .symbols in
+      let some : 1 ≤ symbols = established C good .symbols .least≤ in
+      let read = reading-followed symbols t rest some (document .0) (document .1) in
+      rw (ends-fine symbols _ _ read, ends-taken symbols _ _ read, leading-tree-followed symbols t rest some (document .0) (document .1))
+
+  five-judged : (rest : List ℕ) → length buffer ≡ 5
       → judging C (preorder t ++ rest) buffer ≡ record { answer = judged (judgement C (kindOf C t)) (length (preorder t)); words = kindOf C t }
-  document-judged t rest buffer (over, few) five =
-      judged-document C (preorder t ++ rest) buffer good five t (length (preorder t))
-      (record { begins = record { over = over; rest = rest; inPreorder = refl; took = refl }; few = few })
+  unfolding given _then_ refuseIf
+  five-judged rest five = document-judged rest ∙ rw (good, five)
 
-  pub judged-alone : (t : Tree) (rest buffer other : List ℕ) → IsDocument C t → length buffer ≡ 5 → length other ≡ 5
-      → judging C (preorder t ++ rest) buffer ≡ judging C (preorder t) other
-  judged-alone t rest buffer other document five five′ =
-      document-judged t rest buffer document five
-      ∙ sym (rw (append-nil (preorder t)) at (document-judged t [] other document five′))
+pub judged-alone : (C : Contract) (t : Tree) (rest buffer : List ℕ) → JudgedAlone C t rest buffer
+judged-alone C t rest buffer good document =
+    document-judged C t buffer good document rest ∙ sym (rw (append-nil (preorder t)) at (document-judged C t buffer good document []))
 
-  -- each answer tells where its document ended, and five words are left for the next
-  pub judges-in-turn : (ts : List Tree) (rest buffer other : List ℕ) → All (IsDocument C) ts → length buffer ≡ 5 → length other ≡ 5
-      → JudgesInTurn C ts rest buffer other
-  unfolding judgingInTurn preorders
-  judges-in-turn [] rest buffer other all five five′ = refl
-  judges-in-turn (t ∷ ts) rest buffer other all five five′ =
-      ap (λ (xs : List ℕ). judgingInTurn C (suc (length ts)) xs buffer) (append-assoc (preorder t) (preorders ts) rest)
-      ∙ ap₂ (λ (j : Judged) (js : List Judged). j ∷ js) (judged-alone t behind buffer other (all .0) five five′)
-      (ap (λ (n : ℕ). judgingInTurn C (length ts) (drop n (preorder t ++ behind)) (now .words)) (ap (λ (j : Judged). takenIn (j .answer)) is)
-      ∙ ap (λ (xs : List ℕ). judgingInTurn C (length ts) xs (now .words)) (drop-append-seam (preorder t) behind)
-      ∙ judges-in-turn ts rest (now .words) other (all .1) (ap (λ (j : Judged). length (j .words)) is ∙ kind-five C (established C good) t) five′)
-    where
-      behind : List ℕ
-      behind = preorders ts ++ rest
+-- each judgement tells where its document ended
+pub judges-in-turn : (C : Contract) (ts : List Tree) (rest : List ℕ) (js : List Judged) → JudgesInTurn C ts rest js
+unfolding preorders
+judges-in-turn C [] rest [] good all count turns words five = refl
+judges-in-turn C [] rest (j ∷ js) good all count turns words five = absurd (omega arith)
+judges-in-turn C (t ∷ ts) rest [] good all count turns words five = absurd (omega arith)
+judges-in-turn C (t ∷ ts) rest (j ∷ js) good all count turns words five =
+    ap₂ (λ (j : Judged) (js : List Judged). j ∷ js) (is ∙ sym (rw (append-nil (preorder t)) at (five-judged C t words good (all .0) [] five)))
+    (judges-in-turn C ts rest js good (all .1) (omega arith) (subst (λ (xs : List ℕ). InTurn C xs js) left (turns .1)) words five)
+  where
+    behind : List ℕ
+    behind = preorders ts ++ rest
 
-      now : Judged
-      now = judging C (preorder t ++ behind) buffer
+    numbers : (preorder t ++ preorders ts) ++ rest ≡ preorder t ++ behind
+    numbers = append-assoc (preorder t) (preorders ts) rest
 
-      is : now ≡ record { answer = judged (judgement C (kindOf C t)) (length (preorder t)); words = kindOf C t }
-      is = document-judged t behind buffer (all .0) five
+    is : j ≡ record { answer = judged (judgement C (kindOf C t)) (length (preorder t)); words = kindOf C t }
+    is =
+        let (buffer, lent, judges) = turns .0 in
+        judges ∙ ap (λ (xs : List ℕ). judging C xs buffer) numbers ∙ five-judged C t buffer good (all .0) behind lent
+
+    left : drop (takenByAnswer (j .answer)) ((preorder t ++ preorders ts) ++ rest) ≡ behind
+    left =
+        ap (λ (k : Judged). drop (takenByAnswer (k .answer)) ((preorder t ++ preorders ts) ++ rest)) is
+        ∙ ap (drop (length (preorder t))) numbers
+        ∙ drop-append-seam (preorder t) behind

@@ -28,7 +28,7 @@ use Rattle.model.specs.Rows.{Row, rowAt, rowCount, treeAt}
 use Rattle.model.specs.Facts.{onSide}
 use Rattle.model.specs.Running.{Work, Step, made, refused, _after_, mostCalls, addRow, countCall, seekRule, Runs, noRuns, evaluate, evaluateAll, runAt, runOn, run, Ran, closing, rowsWrong, runningVerdict, running}
 use Rattle.model.specs.Refusals.{LeadingDocument}
-use Rattle.model.specs.Meaning.{RunRefusal, no-rule, no-row, too-many-calls, RanOutput, RunRefused, IsDocument}
+use Rattle.model.specs.Meaning.{RunRefusal, no-rule, no-row, too-many-calls, RanOutput, RunRefused, IsDocument, RunAlone}
 use Rattle.model.specs.Claims.{Admitted}
 use Rattle.model.proofs.Laws.Rules.{firstRule, first-fits}
 use Rattle.model.proofs.Laws.Rows.{tree-empty, tree-node, tree-append}
@@ -468,7 +468,7 @@ module _ (C : Contract) (numbers buffer : List ℕ) where
           }
 
 -- a document is run as it is alone, whatever follows it
-module _ (C : Contract) (good : Admitted C) (t : Tree) (document : IsDocument C t) (buffer : List ℕ) where
+module _ (C : Contract) (t : Tree) (buffer : List ℕ) (good : Admitted C) (document : IsDocument C t) where
   document-run : (rest : List ℕ)
       → running C (preorder t ++ rest) buffer
       ≡ given (admission C then refuseIf (rowsWrong (length buffer)) 9 0 then fine)
@@ -481,5 +481,6 @@ module _ (C : Contract) (good : Admitted C) (t : Tree) (document : IsDocument C 
       let read = reading-followed symbols t rest some (document .0) (document .1) in
       rw (ends-fine symbols _ _ read, ends-taken symbols _ _ read, leading-tree-followed symbols t rest some (document .0) (document .1))
 
-  pub run-alone : (rest : List ℕ) → running C (preorder t ++ rest) buffer ≡ running C (preorder t) buffer
-  run-alone rest = document-run rest ∙ sym (rw (append-nil (preorder t)) at (document-run []))
+pub run-alone : (C : Contract) (t : Tree) (rest buffer : List ℕ) → RunAlone C t rest buffer
+run-alone C t rest buffer good document =
+    document-run C t buffer good document rest ∙ sym (rw (append-nil (preorder t)) at (document-run C t buffer good document []))

@@ -1,6 +1,6 @@
 -- The verdicts of the operations refuse for the reasons that document 01 lists, the first that applies, at its place. What holds of
 -- verdicts one after another, and of a search, is shown once.
-use mathlib.Core.Path.{_≡_, refl, ap, sym, subst, _∙_}
+use mathlib.Core.Path.{_≡_, refl, ap, ap₂, sym, subst, _∙_}
 use mathlib.Core.Bool.{Bool, true, false, not, true≢false}
 use mathlib.Core.List.{List, [], _∷_, _++_}
 use mathlib.Core.Logic.{_↔_, _⊎_, inl, inr}
@@ -9,7 +9,7 @@ use native.Mathlib.Omega.{arith}
 use borrow.Author.Tests.{ltb-true, ltb-false, lt-ltb, le-ltb, leb-true, le-leb, eq-eqb, ne-eqb}
 use lib.Dec.{ltb, eqb}
 use lib.ListN.{length, take, drop, length-take, take-append-drop}
-use lib.Seq.{take-length}
+use lib.Seq.{take-length, take-append-seam}
 use Rattle.foundation.specs.Search.{first, first-at, first-before, first-hit}
 use Rattle.model.specs.Trees.{Tree, preorder}
 use Rattle.model.specs.Tables.{Contract, Node}
@@ -356,4 +356,7 @@ module _ (S : ℕ) (numbers : List ℕ) where
                 ∙ refuse-if-passed _ 12 _ (le-ltb (numbersTaken S numbers) (length numbers) (omega (arith, reads-leading .taken t (length numbers) d))),
           );
           tree = λ t d. whole-read (reads-leading .taken t (length numbers) d) ∙ reads-leading .tree t (length numbers) d;
+          inPreorder = λ t d.
+              let all = ap₂ (λ (n : ℕ) (xs : List ℕ). take n xs) (d .begins .took) (d .begins .inPreorder) in
+              sym (take-length numbers) ∙ all ∙ take-append-seam (preorder t) (d .begins .rest);
         }

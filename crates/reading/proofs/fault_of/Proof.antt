@@ -1,4 +1,4 @@
--- By its test, which names 1,023 twice, as the definition does.
+-- By its one test, which parts 11 from 12.
 use native.Mathlib.Omega.{arith}
 use Rattle.reading.proofs.Verdicts.{too-long, fault-there}
 use Rattle.reading.proofs.fault_of.Statement.{statement}
