@@ -57,5 +57,5 @@ pub judged-in-turn : {C : Contract} → Admitted C → (documents : List Tree) (
     → CallsInTurn (preorders documents ++ rest) calls
     → (words : List ℕ) → length words ≡ 5 → map outcome calls ≡ map (λ (t : Tree). judging C (preorder t) words) documents
 judged-in-turn {C} good documents rest calls all count turns =
-    let as-many : length (map (outcome {C}) calls) ≡ length documents = rw length-map count in
-    judges-in-turn C documents rest (map (outcome {C}) calls) good all as-many (in-turn (preorders documents ++ rest) calls turns)
+    let outcomes : List Judged = map outcome calls in
+    judges-in-turn C documents rest outcomes good all (length-map calls outcome ∙ count) (in-turn (preorders documents ++ rest) calls turns)

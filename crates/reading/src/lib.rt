@@ -74,7 +74,11 @@ pub fn leading_tree(symbols: usize, numbers: &[u16]) -> Leading
 fn looked_at(length: usize) -> usize
     ensures { λ r. ⌜ r ≡ min mostNumbers length ⌝ }
 {
-    if length < MOST_NUMBERS { length } else { MOST_NUMBERS }
+    if length < MOST_NUMBERS {
+        length
+    } else {
+        MOST_NUMBERS
+    }
 }
 
 // What is refused where the numbers looked at have a fault: 11 if they go on to the last of them and more follow, otherwise 12.
