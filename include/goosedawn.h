@@ -1,10 +1,11 @@
-/* Goosedawn for C: contracts admitted and checked, documents judged and transformed, trees written out.
+/* Goosedawn for C: contracts admitted and checked, documents judged, transformed and compared, trees written out.
  *
  * Link with target/staticlib/libgoosedawn_c.a, which `rt staticlib goosedawn_c` proves and writes (x86-64).
  *
  * Any numbers and any lengths may be handed in: what is wrong is refused. Each table is a pointer, then how many 16-bit
- * numbers it has; the pointer is of live memory of that length and never null, also where the length is 0. A buffer that
- * is written overlaps no other memory handed in. No function allocates, keeps a pointer, or touches anything else.
+ * numbers it has; the pointer is of live memory of that length and never null, also where the length is 0. What is
+ * written, a buffer or a stretch, overlaps no other memory handed in; what is only read may overlap or be the same. No
+ * function allocates, keeps a pointer, or touches anything else.
  *
  * Tables hold tuples one after another:
  *   counts        how many parameters each procedure has, 0 to 2; procedure 0 is the start and has none
@@ -18,10 +19,10 @@
  * nodes and 256 rules.
  *
  * A document is its symbols in preorder, 1 to 1023 numbers: symbol 0 stands alone, any other has two trees after it.
- * Judging and running take the document that the numbers begin with, and tell how many numbers it took. What stands
- * behind it is not looked at and may be anything, such as the next document. To go on there, hand in the pointer moved
- * on by the numbers taken and a length that is less by as many, as examples/c/collector.c does. A refusal tells no
- * numbers taken: its second value is the place. */
+ * Judging, running and comparing take the document that the numbers begin with. What stands behind it is not looked at
+ * and may be anything, such as the next document. Judging and running tell how many numbers it took. To go on there,
+ * hand in the pointer moved on by the numbers taken and a length that is less by as many, as examples/c/collector.c
+ * does. A refusal tells no numbers taken: its second value is the place. */
 #ifndef GOOSEDAWN_H
 #define GOOSEDAWN_H
 
@@ -126,6 +127,42 @@ goosedawn_reply goosedawn_run(GOOSEDAWN_CONTRACT, const uint16_t *numbers, size_
  * Refusals write nothing. Otherwise WRITTEN, and what follows the tree in the buffer is kept. */
 goosedawn_reply goosedawn_write_out(const uint16_t *rows, size_t rows_length, size_t row, uint16_t *buffer,
                                     size_t buffer_length);
+
+/* A stretch of numbers: where it starts, and how many there are. */
+typedef struct {
+    const uint16_t *numbers;
+    size_t count;
+} goosedawn_stretch;
+
+/* Why something is refused: a number and a place. Both are 0 where nothing is. */
+typedef struct {
+    size_t number;
+    size_t place;
+} goosedawn_refusal;
+
+/* Finds, of two buffers that each begin with a document, the one whose document has fewer numbers; on a tie the first.
+ * Writes through `into` the very stretch of that document, which starts where its buffer does. No number is copied: the
+ * stretch lives as long as the two buffers. A refusal writes the empty stretch at the first buffer's start, and
+ * goosedawn_shorter_refusal tells it; a document has a number at least, so that the count is 0 for a refusal alone.
+ * Before the call too, `into` holds a stretch of live memory, such as { first, 0 }; it is not looked at. */
+void goosedawn_shorter_into(size_t symbols, const uint16_t *first, size_t first_length, const uint16_t *second,
+                            size_t second_length, goosedawn_stretch *into);
+
+/* The same, with the stretch handed back: the function to call from C, as examples/c/shorter.c does. */
+static inline goosedawn_stretch goosedawn_shorter(size_t symbols, const uint16_t *first, size_t first_length,
+                                                  const uint16_t *second, size_t second_length) {
+    goosedawn_stretch stretch = {first, 0};
+    goosedawn_shorter_into(symbols, first, first_length, second, second_length, &stretch);
+    return stretch;
+}
+
+/* Tells why goosedawn_shorter hands back the empty stretch, or 0 and 0 where it hands back a document. The first that
+ * applies; the second buffer is only looked at if the first is good:
+ *   1   the symbols are not 1 to 16: 0
+ *   11, 12  of the first buffer, as in judging
+ *   54, 55  the same of the second buffer: 54 as 11, 55 as 12 */
+goosedawn_refusal goosedawn_shorter_refusal(size_t symbols, const uint16_t *first, size_t first_length,
+                                            const uint16_t *second, size_t second_length);
 
 #ifdef __cplusplus
 }

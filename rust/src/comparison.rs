@@ -1,8 +1,8 @@
 //! Two engines asked the same random questions, with buffers that hold the same random numbers before.
 
 use crate::contract::Contract;
-use crate::engine::{Answer, Engine};
-use crate::generator::{self, Random};
+use crate::engine::{Answer, Engine, Refusal};
+use crate::generator::{self, Pair, Random};
 use std::fmt::Debug;
 
 /// A question on which two engines differ.
@@ -38,12 +38,12 @@ fn length(random: &mut Random, due: usize) -> usize {
 }
 
 /// Asks both engines; an answer counts with the closing buffers.
-pub fn agree<B: Clone + PartialEq + Debug>(
+pub fn agree<A: PartialEq + Debug, B: Clone + PartialEq + Debug>(
     buffers: B,
     question: impl Fn() -> String,
-    left: impl Fn(&mut B) -> Answer,
-    right: impl Fn(&mut B) -> Answer,
-) -> Result<Answer, Difference> {
+    left: impl Fn(&mut B) -> A,
+    right: impl Fn(&mut B) -> A,
+) -> Result<A, Difference> {
     let (mut ours, mut theirs) = (buffers.clone(), buffers);
     let (a, b) = (left(&mut ours), right(&mut theirs));
     if a == b && ours == theirs {
@@ -118,6 +118,22 @@ fn ask_rows(left: &impl Engine, right: &impl Engine, random: &mut Random, seen: 
     )
 }
 
+/// What an engine says of two buffers: where its stretch starts and how long it is, and what is refused.
+fn told(engine: &impl Engine, pair: &Pair) -> (*const [u16], Option<Refusal>) {
+    let (symbols, first, second) = (pair.symbols, pair.first(), pair.second());
+    (engine.shorter(symbols, first, second), engine.shorter_refusal(symbols, first, second))
+}
+
+fn ask_pair(left: &impl Engine, right: &impl Engine, random: &mut Random, seen: &mut Seen) -> Result<(), Difference> {
+    let pair = generator::pair(random);
+    let question = || format!("shorter at {:p} and {:p} of {pair:?}", pair.first(), pair.second());
+    match agree((), question, |_| told(left, &pair), |_| told(right, &pair))? {
+        (_, Some(_)) => seen.refused += 1,
+        (_, None) => seen.answered += 1,
+    }
+    Ok(())
+}
+
 /// Asks as many random questions of each sort; the first difference, or what was seen.
 pub fn compare(left: &impl Engine, right: &impl Engine, seed: u64, questions: usize) -> Result<Seen, Difference> {
     let mut random = Random::new(seed);
@@ -126,6 +142,7 @@ pub fn compare(left: &impl Engine, right: &impl Engine, seed: u64, questions: us
         let contract = generator::contract(&mut random);
         ask_contract(left, right, &mut random, &contract, &mut seen)?;
         ask_rows(left, right, &mut random, &mut seen)?;
+        ask_pair(left, right, &mut random, &mut seen)?;
     }
     Ok(seen)
 }

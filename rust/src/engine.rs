@@ -1,9 +1,9 @@
-//! The five operations, for whoever performs them.
+//! The five operations and the comparing of two documents, for whoever performs them.
 
 use crate::contract::Contract;
 use std::fmt;
 
-/// What an operation answers, with its numbers; `taken` is how many numbers the document took.
+/// What one of the five operations answers, with its numbers; `taken` is how many numbers the document took.
 #[derive(Clone, Copy, Debug, PartialEq, Eq)]
 pub enum Answer {
     Admitted,
@@ -40,14 +40,88 @@ impl fmt::Display for Answer {
     }
 }
 
+/// Why something is refused: the number and the place.
+pub type Refusal = (u64, usize);
+
 /// The seam: [`crate::model::Model`] is one engine, the proved library another.
 ///
-/// Judging and running take the document that the numbers begin with. A buffer is lent with whatever it holds; after a
-/// refusal that writes nothing it still holds that.
+/// Judging, running and comparing take the document that the numbers begin with. A buffer is lent with whatever it
+/// holds; after a refusal that writes nothing it still holds that.
 pub trait Engine {
     fn admit(&self, contract: &Contract) -> Answer;
     fn judge(&self, contract: &Contract, numbers: &[u16], kind: &mut [u64]) -> Answer;
     fn check(&self, contract: &Contract, limit: usize, rows: &mut [u16], words: &mut [u64]) -> Answer;
     fn run(&self, contract: &Contract, numbers: &[u16], rows: &mut [u16]) -> Answer;
     fn write_out(&self, rows: &[u16], row: usize, buffer: &mut [u16]) -> Answer;
+
+    /// Of two buffers that each begin with a document over the symbols, the stretch of the one with fewer numbers,
+    /// where it stands: nothing is copied. On a tie it is the first buffer's. A refusal hands back the empty stretch at
+    /// the first buffer's start, and [`Engine::shorter_refusal`] tells it. The buffers may overlap or be the same.
+    ///
+    /// ```
+    /// use goosedawn::engine::Engine;
+    /// use goosedawn::library::Library;
+    ///
+    /// let (old, new) = ([1, 0, 1, 0, 0], [1, 0, 0, 7]);
+    /// let shorter = Library::default().shorter(2, &old, &new);
+    /// assert_eq!(shorter, [1, 0, 0]);
+    /// assert!(std::ptr::eq(shorter, &new[..3]));
+    /// ```
+    ///
+    /// The stretch lives as long as both buffers. It cannot be used after the first one,
+    ///
+    /// ```compile_fail,E0597
+    /// # use goosedawn::engine::Engine;
+    /// # use goosedawn::library::Library;
+    /// let second = vec![0];
+    /// let shorter = {
+    ///     let first = vec![0];
+    ///     Library::default().shorter(1, &first, &second)
+    /// };
+    /// assert_eq!(shorter.len(), 1);
+    /// ```
+    ///
+    /// nor after the second:
+    ///
+    /// ```compile_fail,E0597
+    /// # use goosedawn::engine::Engine;
+    /// # use goosedawn::library::Library;
+    /// let first = vec![0];
+    /// let shorter = {
+    ///     let second = vec![0];
+    ///     Library::default().shorter(1, &first, &second)
+    /// };
+    /// assert_eq!(shorter.len(), 1);
+    /// ```
+    ///
+    /// It may be used after the engine is gone:
+    ///
+    /// ```
+    /// # use goosedawn::engine::Engine;
+    /// # use goosedawn::library::Library;
+    /// let (first, second) = (vec![0], vec![0]);
+    /// let shorter = {
+    ///     let library = Library::default();
+    ///     library.shorter(1, &first, &second)
+    /// };
+    /// assert_eq!(shorter.len(), 1);
+    /// ```
+    fn shorter<'a>(&self, symbols: usize, first: &'a [u16], second: &'a [u16]) -> &'a [u16];
+
+    /// Why [`Engine::shorter`] hands back the empty stretch, or `None` where it hands back a document. The first that
+    /// applies: 1 with place 0, the symbols are not 1 to 16; 11 and 12 of the first buffer, as in judging; 54 and 55,
+    /// the same of the second buffer, which is only looked at if the first is good.
+    ///
+    /// ```
+    /// use goosedawn::engine::Engine;
+    /// use goosedawn::library::Library;
+    ///
+    /// let library = Library::default();
+    /// assert_eq!(library.shorter_refusal(2, &[0], &[1, 0, 0]), None);
+    /// assert_eq!(library.shorter_refusal(17, &[0], &[0]), Some((1, 0)));
+    /// assert_eq!(library.shorter_refusal(2, &[1, 0], &[1, 5]), Some((12, 2)));
+    /// assert_eq!(library.shorter_refusal(2, &[0], &[1, 5]), Some((55, 1)));
+    /// assert_eq!(library.shorter(2, &[0], &[1, 5]), []);
+    /// ```
+    fn shorter_refusal(&self, symbols: usize, first: &[u16], second: &[u16]) -> Option<Refusal>;
 }

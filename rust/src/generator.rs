@@ -2,6 +2,7 @@
 
 use crate::contract::Contract;
 use crate::model::documents::MOST_NUMBERS;
+use std::ops::Range;
 
 /// A small generator of random numbers (xorshift with a multiplication).
 #[derive(Clone, Debug)]
@@ -281,6 +282,81 @@ pub fn numbers(random: &mut Random, symbols: usize) -> Vec<u16> {
     let mut numbers = document_or_damaged(random, symbols);
     numbers.extend(behind(random, symbols));
     numbers
+}
+
+/// Two buffers that stand in one memory, apart from each other or not, and a symbol count.
+#[derive(Clone, Debug, PartialEq, Eq)]
+pub struct Pair {
+    pub symbols: usize,
+    memory: Vec<u16>,
+    first: Range<usize>,
+    second: Range<usize>,
+}
+
+impl Pair {
+    pub fn first(&self) -> &[u16] {
+        &self.memory[self.first.clone()]
+    }
+
+    pub fn second(&self) -> &[u16] {
+        &self.memory[self.second.clone()]
+    }
+
+    /// The first buffer right before the second, or right behind it.
+    fn apart(random: &mut Random, symbols: usize, first: &[u16], second: &[u16]) -> Pair {
+        let length = first.len() + second.len();
+        if random.once_in(2) {
+            let memory = [first, second].concat();
+            Pair { symbols, memory, first: 0..first.len(), second: first.len()..length }
+        } else {
+            let memory = [second, first].concat();
+            Pair { symbols, memory, first: second.len()..length, second: 0..second.len() }
+        }
+    }
+}
+
+/// Documents that are as long as each other or nearly so, with something behind them or not.
+fn about_as_long(random: &mut Random, symbols: usize) -> Pair {
+    let size = random.within(0, 12);
+    let mut buffers = [size, size + random.below(2)].map(|size| document(random, symbols, size));
+    buffers.iter_mut().for_each(|buffer| buffer.extend(behind(random, symbols)));
+    if random.once_in(2) {
+        buffers.reverse();
+    }
+    Pair::apart(random, symbols, &buffers[0], &buffers[1])
+}
+
+/// A part of a memory, mostly to its end.
+fn part(random: &mut Random, length: usize) -> Range<usize> {
+    let start = random.within(0, length);
+    let end = if random.once_in(3) { random.within(start, length) } else { length };
+    start..end
+}
+
+/// Two parts of one memory, now and then the same.
+fn overlapping(random: &mut Random, symbols: usize) -> Pair {
+    let memory = numbers(random, symbols);
+    let first = if random.once_in(2) { 0..memory.len() } else { part(random, memory.len()) };
+    let second = if random.once_in(4) { first.clone() } else { part(random, memory.len()) };
+    Pair { symbols, memory, first, second }
+}
+
+/// Two buffers of any sort; now and then the symbol count is another than that of their documents.
+pub fn pair(random: &mut Random) -> Pair {
+    let most = if random.once_in(2) { 3 } else { 16 };
+    let symbols = random.within(1, most);
+    let mut pair = match random.below(4) {
+        0 => about_as_long(random, symbols),
+        1 => overlapping(random, symbols),
+        _ => {
+            let (first, second) = (numbers(random, symbols), numbers(random, symbols));
+            Pair::apart(random, symbols, &first, &second)
+        }
+    };
+    if random.once_in(8) {
+        pair.symbols = [0, 1, 16, 17, 65_536, 1 << 32 | 1, usize::MAX][random.below(7)];
+    }
+    pair
 }
 
 /// Rows over smaller rows, sometimes damaged.

@@ -1,9 +1,10 @@
 //! The proved library as an engine: safe calls of its C functions.
 
 use crate::contract::Contract;
-use crate::engine::{Answer, Engine};
+use crate::engine::{Answer, Engine, Refusal};
 #[cfg(feature = "compare")]
 use std::mem::MaybeUninit;
+use std::slice;
 use std::thread;
 
 /// What the deepest run needs, and some room: running nests as deep as the document and the expressions are.
@@ -152,6 +153,38 @@ build! {
     old_goosedawn_admit, old_goosedawn_judge, old_goosedawn_run, old_goosedawn_check, old_goosedawn_write_out
 }
 
+/// A stretch of numbers: where it starts, and how many there are.
+#[repr(C)]
+struct Stretch {
+    numbers: *const u16,
+    count: usize,
+}
+
+/// Why something is refused; number 0 where nothing is.
+#[repr(C)]
+struct Why {
+    number: usize,
+    place: usize,
+}
+
+extern "C" {
+    fn goosedawn_shorter_into(
+        symbols: usize,
+        first: *const u16,
+        first_length: usize,
+        second: *const u16,
+        second_length: usize,
+        into: *mut Stretch,
+    );
+    fn goosedawn_shorter_refusal(
+        symbols: usize,
+        first: *const u16,
+        first_length: usize,
+        second: *const u16,
+        second_length: usize,
+    ) -> Why;
+}
+
 /// The proved library; runs are made on a thread with a stack of `run_stack` bytes.
 #[derive(Clone, Copy, Debug)]
 pub struct Library {
@@ -172,7 +205,7 @@ impl Library {
     }
 
     /// An older build, which `tests/compare` renames and links beside the present one. How many numbers a document took
-    /// is not to be read from its answers.
+    /// is not to be read from its answers. Comparing is the present build's: an older one may not have it.
     #[cfg(feature = "compare")]
     pub fn old() -> Library {
         Library { functions: OLD, run_stack: RUN_STACK }
@@ -207,5 +240,22 @@ impl Engine for Library {
 
     fn write_out(&self, rows: &[u16], row: usize, buffer: &mut [u16]) -> Answer {
         (self.functions.write_out)(rows, row, buffer)
+    }
+
+    fn shorter<'a>(&self, symbols: usize, first: &'a [u16], second: &'a [u16]) -> &'a [u16] {
+        let mut into = Stretch { numbers: first.as_ptr(), count: 0 };
+        // Both pairs are live slices of those lengths, and the stretch that is written overlaps neither.
+        unsafe {
+            goosedawn_shorter_into(symbols, first.as_ptr(), first.len(), second.as_ptr(), second.len(), &mut into);
+        }
+        // It is proved to be a part of one of the two slices, and both live as long as what is handed back.
+        unsafe { slice::from_raw_parts(into.numbers, into.count) }
+    }
+
+    fn shorter_refusal(&self, symbols: usize, first: &[u16], second: &[u16]) -> Option<Refusal> {
+        // Both pairs are live slices of those lengths, and nothing is written.
+        let why =
+            unsafe { goosedawn_shorter_refusal(symbols, first.as_ptr(), first.len(), second.as_ptr(), second.len()) };
+        (why.number != 0).then_some((why.number as u64, why.place))
     }
 }

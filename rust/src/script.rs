@@ -1,8 +1,8 @@
-//! Scripts of questions, and their answers line for line. docs/FORMAT.md describes both; the statement `taken` belongs
-//! to these scripts alone, and the program `goosedawn` does not know it.
+//! Scripts of questions, and their answers line for line. docs/FORMAT.md describes both; the statements `taken` and
+//! `shorter` belong to these scripts alone, and the program `goosedawn` does not know them.
 
 use crate::contract::Contract;
-use crate::engine::{Answer, Engine};
+use crate::engine::{Answer, Engine, Refusal};
 use std::fmt::Write;
 
 /// The most bytes of a script that are read.
@@ -15,6 +15,7 @@ pub const MOST_SHOWN: usize = 32;
 const A_STATEMENT: &str = "a statement";
 const A_NUMBER: &str = "a number from 0 to 65535";
 const A_NAME: &str = "a name";
+const THE_WORD_AND: &str = "the word and";
 
 /// What `help` prints: the lines of the program `goosedawn`, and one for each statement that these scripts alone have.
 pub const HELP: &str = "\
@@ -37,6 +38,7 @@ rows N ..: the row table that write reads
 write J B: write out the tree of row J, with room for B numbers
 show: the buffers as the last check, run or judge left them
 taken: how many numbers the last judge or run took
+shorter S N .. and N ..: of two documents over S symbols, which the numbers begin with, the one with fewer numbers
 ";
 
 /// A token: where it starts, and its bytes.
@@ -148,6 +150,18 @@ impl<'a> Reader<'a> {
         Ok(values)
     }
 
+    /// The word between two lists of numbers.
+    fn and(&mut self) -> Result<(), Fault> {
+        let token = self.peek()?;
+        match token {
+            Some(word) if word.bytes == b"and" => {
+                self.take(word);
+                Ok(())
+            }
+            _ => Err(self.fault(token, THE_WORD_AND)),
+        }
+    }
+
     /// The line of a place, from 1.
     fn line(&self, place: usize) -> usize {
         1 + self.text[..place].iter().filter(|&&byte| byte == b'\n').count()
@@ -158,6 +172,17 @@ fn shown(token: &[u8]) -> String {
     let most = &token[..token.len().min(MOST_SHOWN)];
     let rest = if token.len() > MOST_SHOWN { "..." } else { "" };
     format!("{}{rest}", String::from_utf8_lossy(most))
+}
+
+/// Which of two buffers a stretch is the start of.
+fn buffer_of(stretch: &[u16], first: &[u16], second: &[u16]) -> &'static str {
+    if stretch.as_ptr() == first.as_ptr() {
+        "first"
+    } else if stretch.as_ptr() == second.as_ptr() {
+        "second"
+    } else {
+        panic!("the stretch is the start of neither buffer")
+    }
 }
 
 /// The buffers as the last operation left them.
@@ -260,6 +285,16 @@ impl<E: Engine> Player<'_, E> {
         }
     }
 
+    fn shorter(&mut self, symbols: u16, first: &[u16], second: &[u16]) {
+        let symbols = usize::from(symbols);
+        if let Some((number, place)) = self.engine.shorter_refusal(symbols, first, second) {
+            return self.say(&Answer::Refused { number, place }.to_string());
+        }
+        let shorter = self.engine.shorter(symbols, first, second);
+        let buffer = buffer_of(shorter, first, second);
+        self.say_list(&format!("shorter {buffer} {}:", shorter.len()), shorter);
+    }
+
     /// One statement, or false at the end.
     fn statement(&mut self, reader: &mut Reader<'_>) -> Result<bool, Fault> {
         let Some(word) = reader.peek()? else { return Ok(false) };
@@ -301,6 +336,13 @@ impl<E: Engine> Player<'_, E> {
             }
             b"show" => self.show(),
             b"taken" => self.say_taken(),
+            b"shorter" => {
+                let symbols = reader.number()?;
+                let first = reader.numbers()?;
+                reader.and()?;
+                let second = reader.numbers()?;
+                self.shorter(symbols, &first, &second);
+            }
             _ => return Err(reader.fault(Some(word), A_STATEMENT)),
         }
         Ok(true)
@@ -385,6 +427,12 @@ pub fn checks(script: &[u8]) -> Vec<(String, Contract, u16)> {
         }
         fn write_out(&self, _: &[u16], _: usize, _: &mut [u16]) -> Answer {
             Answer::Written { count: 0 }
+        }
+        fn shorter<'a>(&self, _: usize, first: &'a [u16], _: &'a [u16]) -> &'a [u16] {
+            &first[..0]
+        }
+        fn shorter_refusal(&self, _: usize, _: &[u16], _: &[u16]) -> Option<Refusal> {
+            None
         }
     }
     let collector = Collector(std::cell::RefCell::new(Vec::new()));

@@ -4,7 +4,7 @@
 
 use goosedawn::comparison::compare;
 use goosedawn::contract::Contract;
-use goosedawn::engine::{Answer, Engine};
+use goosedawn::engine::{Answer, Engine, Refusal};
 use goosedawn::generator::{document, valid, Random, Size};
 use goosedawn::library::Library;
 use goosedawn::model::Model;
@@ -27,6 +27,7 @@ struct Counted {
     checks: Cell<usize>,
     runs: Cell<usize>,
     writings: Cell<usize>,
+    comparisons: Cell<usize>,
 }
 
 fn count(cell: &Cell<usize>) {
@@ -54,6 +55,13 @@ impl Engine for Counted {
         count(&self.writings);
         self.library.write_out(rows, row, buffer)
     }
+    fn shorter<'a>(&self, symbols: usize, first: &'a [u16], second: &'a [u16]) -> &'a [u16] {
+        self.library.shorter(symbols, first, second)
+    }
+    fn shorter_refusal(&self, symbols: usize, first: &[u16], second: &[u16]) -> Option<Refusal> {
+        count(&self.comparisons);
+        self.library.shorter_refusal(symbols, first, second)
+    }
 }
 
 /// Plays a script; says how many lines agree and how many answers of each operation they hold. True if all agree.
@@ -64,13 +72,14 @@ fn agrees(script: &Path, answers: &Path) -> bool {
     let lines = right.lines().count();
     let same = said.lines().zip(right.lines()).filter(|(said, right)| said == right).count();
     println!(
-        "{}: {same} of {lines} lines agree; admit {}, judge {}, check {}, run {}, write {}",
+        "{}: {same} of {lines} lines agree; admit {}, judge {}, check {}, run {}, write {}, shorter {}",
         script.file_name().expect("a name").to_string_lossy(),
         engine.admissions.get(),
         engine.judgings.get(),
         engine.checks.get(),
         engine.runs.get(),
         engine.writings.get(),
+        engine.comparisons.get(),
     );
     if let Some((said, right)) = said.lines().zip(right.lines()).find(|(said, right)| said != right) {
         println!("  {said} instead of {right}");

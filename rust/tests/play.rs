@@ -33,6 +33,7 @@ fn a_file() {
 #[test]
 fn standard_input() {
     prints(&run(&[], "case a admit taken"), 0, "a refused 1 0\na taken none\n");
+    prints(&run(&[], "shorter 2 1 0 0 and 0"), 0, "- shorter second 1: 0\n");
     prints(&run(&[], ""), 0, "");
 }
 

@@ -1,4 +1,5 @@
-//! The worked example, the script of every answer, the numbers taken, and what a script with a fault prints.
+//! The worked example, the script of every answer, the numbers taken, the shorter of two documents, and what a script
+//! with a fault prints.
 
 use goosedawn::model::Model;
 use goosedawn::script::{play, Played, HELP, MOST_BYTES};
@@ -66,6 +67,42 @@ fn the_numbers_taken_leave_what_is_shown() {
 }
 
 #[test]
+fn the_shorter_of_two() {
+    says("shorter 2 1 0 0 and 1 0 1 0 0", "- shorter first 3: 1 0 0\n");
+    says("shorter 2 1 0 1 0 0 and 0 9 9 9 9 9 9", "- shorter second 1: 0\n");
+    says("shorter 3 1 0 0 1 and 2 0 0", "- shorter first 3: 1 0 0\n");
+    says("case a shorter 2\n1 0 0 # old\nand # new\n0 case b", "a shorter second 1: 0\n");
+}
+
+#[test]
+fn the_shorter_of_two_refused() {
+    says("shorter 0 and shorter 17 0 and 0 shorter 65535 0 and 0", "- refused 1 0\n- refused 1 0\n- refused 1 0\n");
+    says("shorter 2 and shorter 2 1 0 and 5", "- refused 12 0\n- refused 12 2\n");
+    says("shorter 2 0 and shorter 2 0 and 1 7 0", "- refused 55 0\n- refused 55 1\n");
+    let long = "1 ".repeat(1024);
+    says(&format!("shorter 2 {long} and 0 shorter 2 0 and {long}"), "- refused 11 1024\n- refused 54 1024\n");
+}
+
+#[test]
+fn the_shorter_of_two_leaves_what_is_shown_and_taken() {
+    for (question, answer) in [("shorter 2 1 0 0 and 0", "shorter second 1: 0"), ("shorter 0 and", "refused 1 0")] {
+        let script = format!("{COPY} run 1 0 9 {question} show taken write 0 1");
+        says(&script, &format!("- run 0 1\n- {answer}\n- rows 0 0 0\n- taken 1\n- written 1: 0\n"));
+    }
+}
+
+#[test]
+fn the_shorter_of_two_needs_one_word_between() {
+    stops("shorter 2 1 0 0", "line 1: found the end of the script, expected the word and\n");
+    stops("shorter 2 0\nshow", "line 2: found show, expected the word and\n");
+    stops("shorter 2 0 And 0", "line 1: found And, expected the word and\n");
+    stops("shorter 2 0 and 0\nand 0", "- shorter first 1: 0\nline 2: found and, expected a statement\n");
+    stops("shorter 2 0 and and 0", "- refused 55 0\nline 1: found and, expected a statement\n");
+    stops("and", "line 1: found and, expected a statement\n");
+    says("case and shorter 1 0 and 0", "and shorter first 1: 0\n");
+}
+
+#[test]
 fn an_unknown_word() {
     stops("admit\n\nchek 5\nadmit", "- refused 1 0\nline 3: found chek, expected a statement\n");
     stops("7", "line 1: found 7, expected a statement\n");
@@ -81,6 +118,9 @@ fn a_number_that_is_too_large() {
     stops("symbols 65535 symbols 65536", &format!("line 1: found 65536, {expected}"));
     says("symbols 0065535 admit", "- refused 1 0\n");
     stops("judge 1 0\n99999999999999999999999", &format!("line 2: found 99999999999999999999999, {expected}"));
+    stops("shorter 65536 0 and 0", &format!("line 1: found 65536, {expected}"));
+    stops("shorter 2 0 65536 and 0", &format!("line 1: found 65536, {expected}"));
+    stops("shorter 2 0 and 0 65536", &format!("line 1: found 65536, {expected}"));
 }
 
 #[test]
@@ -89,6 +129,7 @@ fn a_statement_cut_off() {
     stops("write 3\nshow", "line 2: found show, expected a number from 0 to 65535\n");
     stops("case # a\n", "line 2: found the end of the script, expected a name\n");
     stops("run\nadmit", "line 2: found admit, expected a number from 0 to 65535\n");
+    stops("shorter and 0", "line 1: found and, expected a number from 0 to 65535\n");
 }
 
 #[test]

@@ -1,3 +1,4 @@
 -- The numbers that a caller in C or Rust receives for each of document 01's answers, and what the caller may conclude from them.
 pub mod Replies
 pub mod Calls
+pub mod Refusals

@@ -9,3 +9,4 @@ pub mod Admitted
 pub mod Facts
 pub mod Documents
 pub mod Rules
+pub mod Shorter

@@ -1,5 +1,5 @@
 -- What the answers mean: outputs are those of the published meaning, facts are the states of outputs, a kind says which trees break a
--- contract, a check's answers speak of all trees, and refusals say what is wrong and where.
+-- contract, a check's answers speak of all trees, refusals say what is wrong and where, and of two examples the shorter comes back.
 pub mod Outputs
 pub mod Published
 pub mod Facts
@@ -13,5 +13,6 @@ pub mod Demand
 pub mod Runs
 pub mod Faults
 pub mod Verdicts
+pub mod Shorter
 pub mod Refusals
 pub mod Judgements

@@ -1,5 +1,6 @@
 -- Document 01, sentence by sentence. Each definition quotes the words that it stands for. Published has source document 000's
--- meaning; Refusals, Meaning and Demand have the statements that proofs/ proves.
+-- meaning; Refusals, Meaning and Demand have the statements that proofs/ proves. Shorter has change request W-207, both its
+-- definition and its statements.
 pub mod Trees
 pub mod Documents
 pub mod Rows
@@ -17,6 +18,7 @@ pub mod Checking
 pub mod Running
 pub mod WritingOut
 pub mod Refusals
+pub mod Shorter
 pub mod Claims
 pub mod Meaning
 pub mod Demand

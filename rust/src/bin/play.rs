@@ -11,9 +11,13 @@ const USAGE: &str = "\
 usage: play [SCRIPT]
 
 Plays the script in the file SCRIPT, or the one on standard input where no file is named, on the proved library, and
-prints its answers. docs/FORMAT.md lists the statements. Beside those of the program `goosedawn` there is
+prints its answers. docs/FORMAT.md lists the statements. Beside those of the program `goosedawn` there are
 
     taken    prints how many numbers the last judge or run took: `taken N`, or `taken none` if it was refused
+
+    shorter S N .. and N ..
+             prints of two documents over S symbols, which the numbers begin with, the one with fewer numbers: `shorter
+             first COUNT: N ..` or `shorter second COUNT: N ..`, or a refusal
 
 The status is 0; or 2 if the script has a fault, which the last line names, if it cannot be read or its answers cannot be
 printed, or if there is more than one argument.

@@ -1,4 +1,4 @@
-//! An independent model of the five operations, written to be read: bit masks for sets of states, one ascending pass over
+//! An independent model of the operations, written to be read: bit masks for sets of states, one ascending pass over
 //! the nodes for each assignment of parameter states, no pair of rows visited twice, kinds looked up by hash.
 
 pub mod admission;
@@ -6,13 +6,12 @@ pub mod checking;
 pub mod documents;
 pub mod kinds;
 pub mod running;
+pub mod shorter;
 pub mod writing;
 
 use crate::contract::Contract;
+pub use crate::engine::Refusal;
 use crate::engine::{Answer, Engine};
-
-/// A refusal: its number and its place.
-pub type Refusal = (u64, usize);
 
 /// The model as an engine.
 #[derive(Clone, Copy, Debug, Default)]
@@ -42,5 +41,13 @@ impl Engine for Model {
 
     fn write_out(&self, rows: &[u16], row: usize, buffer: &mut [u16]) -> Answer {
         answer(writing::write_out(rows, row, buffer))
+    }
+
+    fn shorter<'a>(&self, symbols: usize, first: &'a [u16], second: &'a [u16]) -> &'a [u16] {
+        shorter::shorter(symbols, first, second).unwrap_or(&first[..0])
+    }
+
+    fn shorter_refusal(&self, symbols: usize, first: &[u16], second: &[u16]) -> Option<Refusal> {
+        shorter::shorter(symbols, first, second).err()
     }
 }

@@ -59,7 +59,7 @@ none-both (r ∷ rs) ss =
     )
 
 -- one verdict after another: what the second refuses for matters where the first is fine
-then-for : (v w : Verdict) (rs ss : List Reason) → RefusesFor rs v → (v ≡ fine → RefusesFor ss w) → RefusesFor (rs ++ ss) (v then w)
+pub then-for : (v w : Verdict) (rs ss : List Reason) → RefusesFor rs v → (v ≡ fine → RefusesFor ss w) → RefusesFor (rs ++ ss) (v then w)
 unfolding _then_
 then-for fine w rs ss of-v of-w =
     let none : NoReason rs = of-v .passes .0 refl in
@@ -123,7 +123,7 @@ one-for v number Wrong which exactly =
         (same, exactly place .0 (e ∙ ap (λ (n : ℕ). refused n place) same))
 
 -- a test, with its one place
-only-for : (test : Bool) (Holds : Type 0) (number place : ℕ) → (test ≡ true) ↔ Holds → RefusesFor (only number Holds place ∷ []) (refuseIf test number place)
+pub only-for : (test : Bool) (Holds : Type 0) (number place : ℕ) → (test ≡ true) ↔ Holds → RefusesFor (only number Holds place ∷ []) (refuseIf test number place)
 only-for test Holds number place means =
     one-for _ number _ (refuse-if-only test number place)
     (λ p. (

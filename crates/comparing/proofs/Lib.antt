@@ -1,0 +1,2 @@
+-- What comparisons say, from what is read of the two buffers.
+pub mod Comparisons

@@ -1,0 +1,73 @@
+-- What is read of each buffer decides, in the order of the tests.
+use mathlib.Core.Path.{ap, sym, _∙_}
+use borrow.Author.Needs.{needs}
+use Rattle.reading.specs.Answers.{readingVerdict}
+use Rattle.comparing.proofs.Comparisons.{symbols-wrong, first-wrong, second-wrong, compared}
+use Rattle.comparing.proofs.compare.Statement.{statement}
+use Rattle.comparing.proofs.compare.Tie as tie
+
+is-outside-requires : tie.Need-is-outside-requires
+is-outside-requires c κs = search needs
+
+returns : tie.Need-returns
+returns c = symbols-wrong _ _ _ (sym (c .before .is-outside .ensures) ∙ c .if1 .taken)
+
+read-requires : tie.Need-read-requires
+read-requires c κs = search needs
+
+enum-known-of-first : tie.Need-enum-known-of-first
+enum-known-of-first c = search needs
+
+returns-2 : tie.Need-returns-2
+returns-2 c = first-wrong _ _ _ (sym (c .before .before .before .before .before .is-outside .ensures) ∙ c .before .before .before .before .if1 .left) (c .before .of-first .given .0 .0) (sym (ap readingVerdict (c .before .of-first .given .1)) ∙ c .before .before .before .read .ensures .0)
+
+enum-told : tie.Need-enum-told
+enum-told c = search needs
+
+read-requires-2 : tie.Need-read-requires-2
+read-requires-2 c κs = search needs
+
+enum-known-of-second : tie.Need-enum-known-of-second
+enum-known-of-second c = search needs
+
+returns-3 : tie.Need-returns-3
+returns-3 c =
+    second-wrong _ _ _ (sym (c .before .before .before .before .before .before .before .before .is-outside .ensures) ∙ c .before .before .before .before .before .before .before .if1 .left) (sym (c .before .before .before .before .before .before .read .ensures .0) ∙ ap readingVerdict (c .before .before .before .before .enum-told .given .1)) (c .before .of-second .given .0 .0)
+    (sym (ap readingVerdict (c .before .of-second .given .1)) ∙ c .before .before .before .read2 .ensures .0)
+
+enum-told-2 : tie.Need-enum-told-2
+enum-told-2 c = search needs
+
+taken-of-requires : tie.Need-taken-of-requires
+taken-of-requires c κs = search needs
+
+taken-of-requires-2 : tie.Need-taken-of-requires-2
+taken-of-requires-2 c κs = search needs
+
+fewer-requires : tie.Need-fewer-requires
+fewer-requires c κs = search needs
+
+returns-4 : tie.Need-returns-4
+returns-4 c =
+    compared _ _ _ (sym (c .before .before .before .before .before .before .before .before .before .before .is-outside .ensures) ∙ c .before .before .before .before .before .before .before .before .before .if1 .left) (sym (c .before .before .before .before .before .before .before .before .read .ensures .0) ∙ ap readingVerdict (c .before .before .before .before .before .before .enum-told .given .1))
+    (sym (c .before .before .before .before .before .read2 .ensures .0) ∙ ap readingVerdict (c .before .before .before .enum-told2 .given .1))
+    (c .fewer .result) _ _ (c .fewer .ensures .1) (c .fewer .ensures .0) (c .before .before .taken-of .ensures ∙ c .before .before .before .before .before .before .before .before .read .ensures .1) (c .before .taken-of2 .ensures ∙ c .before .before .before .before .before .read2 .ensures .1)
+
+pub compare-spec : {M : Type 1} → statement M
+compare-spec =
+    tie.close
+    (tie.spec
+    is-outside-requires
+    returns
+    read-requires
+    enum-known-of-first
+    returns-2
+    enum-told
+    read-requires-2
+    enum-known-of-second
+    returns-3
+    enum-told-2
+    taken-of-requires
+    taken-of-requires-2
+    fewer-requires
+    returns-4)

@@ -1,0 +1,31 @@
+-- A refusal told by its number and place, and nothing refused by the number 0; and that no two verdicts of comparing are told so.
+use mathlib.Core.Path.{_≡_, refl}
+use mathlib.Core.List.{List}
+use Prim.Native.Nat.{ℕ}
+use native.Mathlib.Omega.{arith}
+use borrow.Author.Tests.{ne-eqb}
+use lib.Dec.{eqb}
+use Rattle.foundation.specs.Tests.{choose}
+use Rattle.model.specs.Answers.{Verdict, fine, refused}
+use Rattle.model.specs.Shorter.{shorterVerdict}
+use Rattle.model.proofs.Meaning.Shorter.{refused-number}
+use Rattle.goosedawn_c.specs.declared.shorter.Told.{Told}
+
+abbrev pub told : (number place : ℕ) → Told
+told number place = record { number = number; place = place }
+
+-- "its number and place, or none"
+abbrev pub toldOf : Verdict → Told
+toldOf fine = told 0 0
+toldOf (refused number place) = told number place
+
+-- the verdict that is told
+abbrev pub verdictOfTold : Told → Verdict
+verdictOfTold t = choose (eqb (t .number) 0) fine (refused (t .number) (t .place))
+
+pub verdict-told : (S : ℕ) (xs ys : List ℕ) → verdictOfTold (toldOf (shorterVerdict S xs ys)) ≡ shorterVerdict S xs ys
+verdict-told S xs ys = go (shorterVerdict S xs ys) refl
+  where
+    go : (v : Verdict) → shorterVerdict S xs ys ≡ v → verdictOfTold (toldOf v) ≡ v
+    go fine e = refl
+    go (refused number place) e = rw (ne-eqb number 0 (λ zero. omega (arith, zero, refused-number S xs ys number place e)))

@@ -1,0 +1,75 @@
+// The shorter of two examples for C and Rust: which stretch of the two buffers it is, and why there is none.
+ghost use mathlib.Core.Path.{_≡_};
+ghost use Rattle.model.specs.Shorter.{shorterVerdict};
+ghost use Rattle.comparing.specs.Answers.{documentVerdict, faultVerdict, refusalVerdict};
+ghost use Rattle.comparing.specs.Stretches.{lent, shorterPart};
+ghost use Rattle.goosedawn_c.specs.Refusals.{told, toldOf};
+use answers::DocumentFault;
+use comparing::ComparingFault;
+use comparing::Refusal;
+use comparing::shorter;
+use comparing::shorter_refusal;
+
+// A refusal's number and place; both are 0 where nothing is refused.
+#[repr(C)]
+pub struct Told {
+    pub number: usize,
+    pub place: usize,
+}
+
+fn tell(number: usize, place: usize) -> Told
+    ensures { λ r. ⌜ r ≡ told number place ⌝ }
+{
+    Told { number, place }
+}
+
+// What is wrong with a buffer, by the number of a tree without end and the number of a fault.
+fn tell_document(endless: usize, faulty: usize, fault: DocumentFault) -> Told
+    ensures { λ r. ⌜ r ≡ toldOf (documentVerdict endless faulty fault) ⌝ }
+{
+    match fault {
+        DocumentFault::Length(numbers) => tell(endless, numbers),
+        DocumentFault::Number(place) => tell(faulty, place),
+    }
+}
+
+fn tell_fault(fault: ComparingFault) -> Told
+    ensures { λ r. ⌜ r ≡ toldOf (faultVerdict fault) ⌝ }
+{
+    match fault {
+        ComparingFault::Symbols => tell(1, 0),
+        ComparingFault::First(wrong) => tell_document(11, 12, wrong),
+        ComparingFault::Second(wrong) => tell_document(54, 55, wrong),
+    }
+}
+
+fn tell_refusal(refusal: Refusal) -> Told
+    ensures { λ r. ⌜ r ≡ toldOf (refusalVerdict refusal) ⌝ }
+{
+    match refusal {
+        Refusal::Nothing => tell(0, 0),
+        Refusal::Because(fault) => tell_fault(fault),
+    }
+}
+
+// The shorter of the trees that the two buffers begin with: where it starts in its buffer and how many numbers it has go into `into`.
+#[no_mangle]
+pub extern "C" fn goosedawn_shorter_into<'a, 'b>(
+    symbols: usize,
+    first: &'a [u16],
+    second: &'a [u16],
+    into: &'b mut &'a [u16],
+)
+    ensures { λ _. ⌜ lent (now (into .exit)) ≡ shorterPart symbols (first .entry) (second .entry) ⌝ }
+{
+    let part = shorter(symbols, first, second);
+    *into = part;
+}
+
+// Why there is no shorter tree, or nothing.
+#[no_mangle]
+pub extern "C" fn goosedawn_shorter_refusal(symbols: usize, first: &[u16], second: &[u16]) -> Told
+    ensures { λ r. ⌜ r ≡ toldOf (shorterVerdict symbols (now (first .entry)) (now (second .entry))) ⌝ }
+{
+    tell_refusal(shorter_refusal(symbols, first, second))
+}
