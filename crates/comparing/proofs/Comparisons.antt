@@ -2,13 +2,12 @@
 use mathlib.Core.Path.{_≡_, refl, ap, sym, _∙_}
 use mathlib.Core.Bool.{true, false}
 use mathlib.Core.List.{List}
-use Prim.Native.Nat.{ℕ}
+use Prim.Native.Nat.{ℕ, _≤_}
 use lib.ListN.{length}
-use lib.Seq.{length-take-le}
 use Rattle.model.specs.Answers.{fine, refused}
 use Rattle.model.specs.Admission.{outside}
 use Rattle.model.specs.Documents.{numbersTaken, leadingVerdict}
-use Rattle.model.specs.Shorter.{Stretch, pick, numbersOf, ofSecond, shorterVerdict, fewer, shorter}
+use Rattle.model.specs.Shorter.{Stretch, pick, ofSecond, shorterVerdict, fewer, shorter}
 use Rattle.model.proofs.Laws.Shorter.{second-fine, symbols-refused, first-refused, second-verdict, shorter-refused, shorter-fine, shorter-within}
 use Rattle.answers.specs.declared.DocumentFault.{DocumentFault}
 use Rattle.answers.specs.declared.DocumentFault.the-variants as document
@@ -25,15 +24,15 @@ module _ (S : ℕ) (xs ys : List ℕ) where
   Says r = (verdictOf r ≡ shorterVerdict S xs ys) × (stretchOf r ≡ shorter S xs ys)
 
   -- the stretch handed back is there
-  pub stretch-there : (s : Stretch) → s ≡ shorter S xs ys → s .count ≡ length (numbersOf s xs ys)
-  stretch-there s e = sym (length-take-le (s .count) (pick (s .buffer) xs ys) (rw e (shorter-within S xs ys)))
+  pub stretch-there : (s : Stretch) → s ≡ shorter S xs ys → s .count ≤ length (pick (s .buffer) xs ys)
+  stretch-there s e = rw e (shorter-within S xs ys)
 
   refused-says : (f : ComparingFault) (number place : ℕ) → faultVerdict f ≡ refused number place → shorterVerdict S xs ys ≡ refused number place
       → Says (comparison.Refused f)
   refused-says f number place told e = (told ∙ sym e, sym (shorter-refused S xs ys number place e))
 
-  pub symbols-wrong : outside 1 16 S ≡ true → Says (comparison.Refused fault.Symbols)
-  symbols-wrong e = refused-says fault.Symbols 1 0 refl (symbols-refused S xs ys e)
+  pub range-wrong : outside 1 16 S ≡ true → Says (comparison.Refused fault.Symbols)
+  range-wrong e = refused-says fault.Symbols 1 0 refl (symbols-refused S xs ys e)
 
   module _ (some : outside 1 16 S ≡ false) where
     pub first-wrong : (f : DocumentFault) → reading.faultVerdict f ≡ leadingVerdict S xs → Says (comparison.Refused (fault.First f))

@@ -4,6 +4,7 @@
 // `shorter` takes that stretch out of the buffers that were lent. It copies nothing, and what it hands back lives as long as both.
 ghost use mathlib.Core.Path.{_≡_};
 ghost use Rattle.model.specs.Answers.{fine};
+ghost use Rattle.model.specs.Admission.{outside};
 ghost use Rattle.model.specs.Shorter.{shorterVerdict};
 ghost use Rattle.model.specs.Shorter as model;
 ghost use Rattle.comparing.specs.Answers.{stretchOf, verdictOf, refusalVerdict};
@@ -39,6 +40,13 @@ pub enum Refusal {
     Because(ComparingFault),
 }
 
+// Whether there cannot be so many symbols.
+fn symbols_wrong(symbols: usize) -> bool
+    ensures { λ r. ⌜ r ≡ outside 1 16 symbols ⌝ }
+{
+    is_outside(1, 16, symbols)
+}
+
 // Of a tree of n numbers in the first buffer and one of m in the second, the one with fewer; on a tie, the first.
 fn fewer(n: usize, m: usize) -> Comparison
     ensures { λ r. ⌜ stretchOf r ≡ model.fewer n m ⌝ }
@@ -55,7 +63,7 @@ pub fn compare(symbols: usize, first: &[u16], second: &[u16]) -> Comparison
     ensures { λ r. ⌜ verdictOf r ≡ shorterVerdict symbols (now (first .entry)) (now (second .entry)) ⌝ }
     ensures { λ r. ⌜ stretchOf r ≡ model.shorter symbols (now (first .entry)) (now (second .entry)) ⌝ }
 {
-    if is_outside(1, 16, symbols) {
+    if symbols_wrong(symbols) {
         return Comparison::Refused(ComparingFault::Symbols);
     }
     let of_first = read(symbols, first);

@@ -92,4 +92,4 @@ pub record Compares (S : ℕ) (xs ys : List ℕ) : Type 0 where
   pub passes : (shorterVerdict S xs ys ≡ fine) ↔ (InRange S × Good S xs × Good S ys)
   pub hands : shorterVerdict S xs ys ≡ fine → ShorterTree S xs ys (shorter S xs ys)
   pub handsSome : shorterVerdict S xs ys ≡ fine → 1 ≤ shorter S xs ys .count
-  pub handsNothing : (number place : ℕ) → shorterVerdict S xs ys ≡ refused number place → shorter S xs ys ≡ emptyStretch
+  pub handsNothing : (number place : ℕ) → shorterVerdict S xs ys ≡ refused number place → shorter S xs ys ≡ inFirst 0

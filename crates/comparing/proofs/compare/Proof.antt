@@ -2,15 +2,15 @@
 use mathlib.Core.Path.{ap, sym, _∙_}
 use borrow.Author.Needs.{needs}
 use Rattle.reading.specs.Answers.{readingVerdict}
-use Rattle.comparing.proofs.Comparisons.{symbols-wrong, first-wrong, second-wrong, compared}
+use Rattle.comparing.proofs.Comparisons.{range-wrong, first-wrong, second-wrong, compared}
 use Rattle.comparing.proofs.compare.Statement.{statement}
 use Rattle.comparing.proofs.compare.Tie as tie
 
-is-outside-requires : tie.Need-is-outside-requires
-is-outside-requires c κs = search needs
+symbols-wrong-requires : tie.Need-symbols-wrong-requires
+symbols-wrong-requires c κs = search needs
 
 returns : tie.Need-returns
-returns c = symbols-wrong _ _ _ (sym (c .before .is-outside .ensures) ∙ c .if1 .taken)
+returns c = range-wrong _ _ _ (sym (c .before .symbols-wrong .ensures) ∙ c .if1 .taken)
 
 read-requires : tie.Need-read-requires
 read-requires c κs = search needs
@@ -19,7 +19,7 @@ enum-known-of-first : tie.Need-enum-known-of-first
 enum-known-of-first c = search needs
 
 returns-2 : tie.Need-returns-2
-returns-2 c = first-wrong _ _ _ (sym (c .before .before .before .before .before .is-outside .ensures) ∙ c .before .before .before .before .if1 .left) (c .before .of-first .given .0 .0) (sym (ap readingVerdict (c .before .of-first .given .1)) ∙ c .before .before .before .read .ensures .0)
+returns-2 c = first-wrong _ _ _ (sym (c .before .before .before .before .before .symbols-wrong .ensures) ∙ c .before .before .before .before .if1 .left) (c .before .of-first .given .0 .0) (sym (ap readingVerdict (c .before .of-first .given .1)) ∙ c .before .before .before .read .ensures .0)
 
 enum-told : tie.Need-enum-told
 enum-told c = search needs
@@ -32,7 +32,7 @@ enum-known-of-second c = search needs
 
 returns-3 : tie.Need-returns-3
 returns-3 c =
-    second-wrong _ _ _ (sym (c .before .before .before .before .before .before .before .before .is-outside .ensures) ∙ c .before .before .before .before .before .before .before .if1 .left) (sym (c .before .before .before .before .before .before .read .ensures .0) ∙ ap readingVerdict (c .before .before .before .before .enum-told .given .1)) (c .before .of-second .given .0 .0)
+    second-wrong _ _ _ (sym (c .before .before .before .before .before .before .before .before .symbols-wrong .ensures) ∙ c .before .before .before .before .before .before .before .if1 .left) (sym (c .before .before .before .before .before .before .read .ensures .0) ∙ ap readingVerdict (c .before .before .before .before .enum-told .given .1)) (c .before .of-second .given .0 .0)
     (sym (ap readingVerdict (c .before .of-second .given .1)) ∙ c .before .before .before .read2 .ensures .0)
 
 enum-told-2 : tie.Need-enum-told-2
@@ -49,7 +49,7 @@ fewer-requires c κs = search needs
 
 returns-4 : tie.Need-returns-4
 returns-4 c =
-    compared _ _ _ (sym (c .before .before .before .before .before .before .before .before .before .before .is-outside .ensures) ∙ c .before .before .before .before .before .before .before .before .before .if1 .left) (sym (c .before .before .before .before .before .before .before .before .read .ensures .0) ∙ ap readingVerdict (c .before .before .before .before .before .before .enum-told .given .1))
+    compared _ _ _ (sym (c .before .before .before .before .before .before .before .before .before .before .symbols-wrong .ensures) ∙ c .before .before .before .before .before .before .before .before .before .if1 .left) (sym (c .before .before .before .before .before .before .before .before .read .ensures .0) ∙ ap readingVerdict (c .before .before .before .before .before .before .enum-told .given .1))
     (sym (c .before .before .before .before .before .read2 .ensures .0) ∙ ap readingVerdict (c .before .before .before .enum-told2 .given .1))
     (c .fewer .result) _ _ (c .fewer .ensures .1) (c .fewer .ensures .0) (c .before .before .taken-of .ensures ∙ c .before .before .before .before .before .before .before .before .read .ensures .1) (c .before .taken-of2 .ensures ∙ c .before .before .before .before .before .read2 .ensures .1)
 
@@ -57,7 +57,7 @@ pub compare-spec : {M : Type 1} → statement M
 compare-spec =
     tie.close
     (tie.spec
-    is-outside-requires
+    symbols-wrong-requires
     returns
     read-requires
     enum-known-of-first

@@ -1,5 +1,7 @@
 -- The stretch that comparing tells is taken out of its buffer, where it is.
 use mathlib.Core.Path.{ap, sym, _∙_}
+use native.Mathlib.Omega.{arith}
+use lib.Seq.{length-take-le}
 use borrow.Author.Needs.{needs}
 use Rattle.model.specs.Shorter.{Stretch, inFirst, inSecond}
 use Rattle.comparing.specs.Answers.{stretchOf}
@@ -15,13 +17,13 @@ enum-known-count : tie.Need-enum-known-count
 enum-known-count c = search needs
 
 slice-aggregate-result : tie.Need-slice-aggregate-result
-slice-aggregate-result c = stretch-there _ (c .before .before .before .before .before .before .before .args .first .now) (c .before .before .before .before .before .before .before .args .second .now) (inFirst (c .before .before .count .given .0 .0)) (sym (ap stretchOf (c .before .before .count .given .1)) ∙ c .before .before .before .before .compare .ensures .1)
+slice-aggregate-result c = sym (length-take-le _ _ (omega (arith, stretch-there _ (c .before .before .before .before .before .before .before .args .first .now) (c .before .before .before .before .before .before .before .args .second .now) (inFirst (c .before .before .count .given .0 .0)) (sym (ap stretchOf (c .before .before .count .given .1)) ∙ c .before .before .before .before .compare .ensures .1))))
 
 enum-known-count-2 : tie.Need-enum-known-count-2
 enum-known-count-2 c = search needs
 
 slice-aggregate-result-2 : tie.Need-slice-aggregate-result-2
-slice-aggregate-result-2 c = stretch-there _ (c .before .before .before .before .before .before .before .args .first .now) (c .before .before .before .before .before .before .before .args .second .now) (inSecond (c .before .before .count2 .given .0 .0)) (sym (ap stretchOf (c .before .before .count2 .given .1)) ∙ c .before .before .before .before .compare .ensures .1)
+slice-aggregate-result-2 c = sym (length-take-le _ _ (omega (arith, stretch-there _ (c .before .before .before .before .before .before .before .args .first .now) (c .before .before .before .before .before .before .before .args .second .now) (inSecond (c .before .before .count2 .given .0 .0)) (sym (ap stretchOf (c .before .before .count2 .given .1)) ∙ c .before .before .before .before .compare .ensures .1))))
 
 enum-told : tie.Need-enum-told
 enum-told c = search needs

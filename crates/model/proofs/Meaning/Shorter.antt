@@ -68,6 +68,9 @@ module _ (A B : ℕ → Type 0) where
           passes = (λ e. none-told .0 (for .passes .0 (of-second-fine v e)), λ none. second-fine v (for .passes .1 (none-told .1 none)));
         }
 
+in-range : (S : ℕ) → outside 1 16 S ≡ false → InRange S
+in-range S e = let b = inside 1 16 S e in (b .least≤, b .≤most)
+
 -- "a symbol count out of range"
 range : (S : ℕ) → (outside 1 16 S ≡ true) ↔ (InRange S → ⊥)
 range S = (
@@ -77,7 +80,7 @@ range S = (
   where
     go : (InRange S → ⊥) → (test : Bool) → outside 1 16 S ≡ test → outside 1 16 S ≡ true
     go never true e = e
-    go never false e = let b = inside 1 16 S e in absurd (never (b .least≤, b .≤most))
+    go never false e = absurd (never (in-range S e))
 
 -- the numbers taken are the tree's
 tree-numbers : (S : ℕ) (numbers : List ℕ) → leadingVerdict S numbers ≡ fine → take (numbersTaken S numbers) numbers ≡ preorder (leadingTree S numbers)
@@ -85,22 +88,19 @@ unfolding leadingTree
 tree-numbers S numbers e = sym (leading-fine S numbers e .document .numbers)
 
 module _ (S : ℕ) (xs ys : List ℕ) where
-  in-range : outside 1 16 S ≡ false → InRange S
-  in-range e = let b = inside 1 16 S e in (b .least≤, b .≤most)
-
   refuses-for : RefusesFor (shorterReasons S xs ys) (shorterVerdict S xs ys)
   unfolding shorterVerdict
   refuses-for =
       then-for _ _ _ _ (only-for _ (InRange S → ⊥) 1 0 (range S)) λ e.
-      let some : 1 ≤ S = in-range (refuse-if-fine _ 1 0 e) .0 in
+      let some : 1 ≤ S = in-range S (refuse-if-fine _ 1 0 e) .0 in
       then-for _ _ (leadingReasons S xs) _ (leading-refusals S xs some) λ one.
       second-for _ _ (leadingVerdict S ys) (leading-refusals S ys some)
 
   both-good : shorterVerdict S xs ys ≡ fine → InRange S × Good S xs × Good S ys
   both-good e =
       let c = nothing-refused S xs ys e in
-      let some : 1 ≤ S = in-range (c .symbols) .0 in
-      (in-range (c .symbols), reads-leading S xs some .passes .0 (c .ofFirst), reads-leading S ys some .passes .0 (c .ofSecond))
+      let some : 1 ≤ S = in-range S (c .symbols) .0 in
+      (in-range S (c .symbols), reads-leading S xs some .passes .0 (c .ofFirst), reads-leading S ys some .passes .0 (c .ofSecond))
 
   good-both : InRange S × Good S xs × Good S ys → shorterVerdict S xs ys ≡ fine
   good-both (within, one, two) =
@@ -110,7 +110,7 @@ module _ (S : ℕ) (xs ys : List ℕ) where
   shorter-tree : shorterVerdict S xs ys ≡ fine → ShorterTree S xs ys (shorter S xs ys)
   shorter-tree e =
       let c = nothing-refused S xs ys e in
-      let some : 1 ≤ S = in-range (c .symbols) .0 in
+      let some : 1 ≤ S = in-range S (c .symbols) .0 in
       subst (ShorterTree S xs ys) (sym (shorter-fine S xs ys e))
       (fewer-has (ShorterTree S xs ys) (numbersTaken S xs) (numbersTaken S ys)
       (λ few.
