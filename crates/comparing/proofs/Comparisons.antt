@@ -17,15 +17,23 @@ use Rattle.comparing.specs.declared.ComparingFault.the-variants as fault
 use Rattle.comparing.specs.declared.Comparison.{Comparison}
 use Rattle.comparing.specs.declared.Comparison.the-variants as comparison
 use Rattle.comparing.specs.Answers.{faultVerdict, verdictOf, stretchOf}
+use Rattle.comparing.specs.Stretches.{Slice, partOf, shorterPart}
+
+-- a comparison that is known to be s: its stretch is there, and handed back in its place
+module _ (S : ℕ) (first second : Slice) {r : Comparison} (s : Comparison) (known : r ≡ s) (told : stretchOf r ≡ shorter S (first .now) (second .now)) where
+  same-stretch : stretchOf s ≡ shorter S (first .now) (second .now)
+  same-stretch = sym (ap stretchOf known) ∙ told
+
+  pub there : stretchOf s .count ≤ length (pick (stretchOf s .buffer) (first .now) (second .now))
+  there = rw same-stretch (shorter-within S (first .now) (second .now))
+
+  pub handed : partOf (stretchOf s) first second ≡ shorterPart S first second
+  handed = ap (λ (t : Stretch). partOf t first second) same-stretch
 
 module _ (S : ℕ) (xs ys : List ℕ) where
   -- what is promised of a comparison
   abbrev pub Says : Comparison → Type 0
   Says r = (verdictOf r ≡ shorterVerdict S xs ys) × (stretchOf r ≡ shorter S xs ys)
-
-  -- the stretch handed back is there
-  pub stretch-there : (s : Stretch) → s ≡ shorter S xs ys → s .count ≤ length (pick (s .buffer) xs ys)
-  stretch-there s e = rw e (shorter-within S xs ys)
 
   refused-says : (f : ComparingFault) (number place : ℕ) → faultVerdict f ≡ refused number place → shorterVerdict S xs ys ≡ refused number place
       → Says (comparison.Refused f)
