@@ -143,7 +143,8 @@ typedef struct {
 /* Finds, of two buffers that each begin with a document, the one whose document has fewer numbers; on a tie the first.
  * Writes through `into` the very stretch of that document, which starts where its buffer does. No number is copied: the
  * stretch lives as long as the two buffers. A refusal writes the empty stretch at the first buffer's start, and
- * goosedawn_shorter_refusal tells it; a document has a number at least, so that the count is 0 for a refusal alone.
+ * goosedawn_shorter_refusal tells it; a document has a number at least, so that the count is 0 for a refusal alone. (The
+ * tree that a check shows may have more than 1023 numbers; written out, it is refused here by 11 or 54.)
  * Before the call too, `into` holds a stretch of live memory, such as { first, 0 }; it is not looked at. */
 void goosedawn_shorter_into(size_t symbols, const uint16_t *first, size_t first_length, const uint16_t *second,
                             size_t second_length, goosedawn_stretch *into);

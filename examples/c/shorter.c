@@ -1,26 +1,48 @@
-/* Prints the shorter of the documents that an old and a new contract show, from where it stands. */
+/* Checks an old and a new contract, and prints the shorter of the documents that they show, from where it stands. */
 #include <stdio.h>
 
 #include "goosedawn.h"
 
-/* <a><a/></a>; <a/>, and what else its buffer holds; and a document that is cut off */
-static const uint16_t old_example[] = {1, 1, 0, 0, 0}, new_example[] = {1, 0, 0, 7, 7, 7}, cut_off[] = {1, 1, 0};
+/* The transformation copies its input. The old output type allows no element inside another, the new one no element. */
+static const uint16_t counts[] = {0}, input_rows[] = {0, 0, 0, 0, 0, 1, 0, 0}, input_marks[] = {1};
+static const uint16_t nodes[] = {1, 0, 0, 0, 0, 2, 0, 1, 0, 0, 2, 0, 2, 0, 0, 1, 1, 0, 1, 2};
+static const uint16_t rules[] = {0, 0, 0, 0, 1, 3};
+static const uint16_t old_table[] = {0, 1, 1, 2, 2, 2, 2, 2, 2, 2}, old_marks[] = {1, 1, 0};
+static const uint16_t new_table[] = {0, 1, 1, 1, 1}, new_marks[] = {1, 0};
 
-/* Whose the shorter one is: the stretch starts where that buffer does. Then its numbers, or why it is empty. */
-static void print_shorter(const uint16_t *first, size_t first_length, const uint16_t *second, size_t second_length) {
-    goosedawn_stretch shorter = goosedawn_shorter(2, first, first_length, second, second_length);
-    const char *whose = shorter.numbers == first ? "old" : shorter.numbers == second ? "new" : "neither";
+/* Writes out the document that the contract with this output type shows: how many numbers, or 0 if it shows none. */
+static size_t write_shown(size_t states, const uint16_t *table, size_t table_length, const uint16_t *marks,
+                          uint16_t *document, size_t document_length) {
+    static uint16_t rows[3 * 512];
+    static uint64_t words[5 * 512];
+    goosedawn_reply reply = goosedawn_check(2, 1, states, counts, 1, input_rows, 8, input_marks, 1, table, table_length,
+                                            marks, states, nodes, 20, rules, 6, 512, rows, 1536, words, 2560);
+    if (reply.answer == GOOSEDAWN_TREE)
+        reply = goosedawn_write_out(rows, 1536, reply.first, document, document_length);
+    return reply.answer == GOOSEDAWN_WRITTEN ? reply.first : 0;
+}
+
+/* Prints whose document is shorter, which the stretch tells by where it starts, and its numbers; or why there is none. */
+static void print_shorter(const uint16_t *old_document, size_t old_length, const uint16_t *new_document,
+                          size_t new_length) {
+    goosedawn_stretch shorter = goosedawn_shorter(2, old_document, old_length, new_document, new_length);
+    if (shorter.count == 0) {
+        goosedawn_refusal why = goosedawn_shorter_refusal(2, old_document, old_length, new_document, new_length);
+        printf("refused %zu %zu\n", why.number, why.place);
+        return;
+    }
+    const char *whose = shorter.numbers == old_document ? "old" : shorter.numbers == new_document ? "new" : "neither";
     printf("%s, %zu numbers:", whose, shorter.count);
     for (size_t i = 0; i < shorter.count; i++) printf(" %u", shorter.numbers[i]);
-    if (shorter.count == 0) {
-        goosedawn_refusal refusal = goosedawn_shorter_refusal(2, first, first_length, second, second_length);
-        printf(" refused %zu %zu", refusal.number, refusal.place);
-    }
     printf("\n");
 }
 
 int main(void) {
-    print_shorter(old_example, 5, new_example, 6);
-    print_shorter(old_example, 5, cut_off, 3);
+    static uint16_t old_document[1023], new_document[1023];
+    size_t old_length = write_shown(3, old_table, 10, old_marks, old_document, 1023);
+    size_t new_length = write_shown(2, new_table, 5, new_marks, new_document, 1023);
+    print_shorter(old_document, old_length, new_document, new_length);
+    /* the same without the last number of the new document */
+    print_shorter(old_document, old_length, new_document, new_length - 1);
     return 0;
 }

@@ -162,7 +162,7 @@ struct Stretch {
 
 /// Why something is refused; number 0 where nothing is.
 #[repr(C)]
-struct Why {
+struct Told {
     number: usize,
     place: usize,
 }
@@ -182,7 +182,7 @@ extern "C" {
         first_length: usize,
         second: *const u16,
         second_length: usize,
-    ) -> Why;
+    ) -> Told;
 }
 
 /// The proved library; runs are made on a thread with a stack of `run_stack` bytes.
@@ -244,7 +244,7 @@ impl Engine for Library {
 
     fn shorter<'a>(&self, symbols: usize, first: &'a [u16], second: &'a [u16]) -> &'a [u16] {
         let mut into = Stretch { numbers: first.as_ptr(), count: 0 };
-        // Both pairs are live slices of those lengths, and the stretch that is written overlaps neither.
+        // Both pairs are live slices of those lengths; the stretch that is written is live before too, and overlaps neither.
         unsafe {
             goosedawn_shorter_into(symbols, first.as_ptr(), first.len(), second.as_ptr(), second.len(), &mut into);
         }
@@ -254,8 +254,8 @@ impl Engine for Library {
 
     fn shorter_refusal(&self, symbols: usize, first: &[u16], second: &[u16]) -> Option<Refusal> {
         // Both pairs are live slices of those lengths, and nothing is written.
-        let why =
+        let told =
             unsafe { goosedawn_shorter_refusal(symbols, first.as_ptr(), first.len(), second.as_ptr(), second.len()) };
-        (why.number != 0).then_some((why.number as u64, why.place))
+        (told.number != 0).then_some((told.number as u64, told.place))
     }
 }

@@ -38,7 +38,7 @@ rows N ..: the row table that write reads
 write J B: write out the tree of row J, with room for B numbers
 show: the buffers as the last check, run or judge left them
 taken: how many numbers the last judge or run took
-shorter S N .. and N ..: of two documents over S symbols, which the numbers begin with, the one with fewer numbers
+shorter S N .. and N ..: the shorter of the documents over S symbols that the two lists begin with, the first on a tie
 ";
 
 /// A token: where it starts, and its bytes.

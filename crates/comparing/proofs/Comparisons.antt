@@ -2,13 +2,12 @@
 use mathlib.Core.Path.{_≡_, refl, ap, sym, _∙_}
 use mathlib.Core.Bool.{true, false}
 use mathlib.Core.List.{List}
-use Prim.Native.Nat.{ℕ, _≤_}
-use lib.ListN.{length}
+use Prim.Native.Nat.{ℕ}
 use Rattle.model.specs.Answers.{fine, refused}
 use Rattle.model.specs.Admission.{outside}
 use Rattle.model.specs.Documents.{numbersTaken, leadingVerdict}
-use Rattle.model.specs.Shorter.{Stretch, pick, ofSecond, shorterVerdict, fewer, shorter}
-use Rattle.model.proofs.Laws.Shorter.{second-fine, symbols-refused, first-refused, second-verdict, shorter-refused, shorter-fine, shorter-within}
+use Rattle.model.specs.Shorter.{Stretch, ofSecond, shorterVerdict, fewer, shorter}
+use Rattle.model.proofs.Laws.Shorter.{second-fine, symbols-refused, first-refused, second-verdict, shorter-refused, shorter-fine, Within, shorter-within}
 use Rattle.answers.specs.declared.DocumentFault.{DocumentFault}
 use Rattle.answers.specs.declared.DocumentFault.the-variants as document
 use Rattle.reading.specs.Answers as reading
@@ -19,12 +18,12 @@ use Rattle.comparing.specs.declared.Comparison.the-variants as compariso
 use Rattle.comparing.specs.Answers.{faultVerdict, verdictOf, stretchOf}
 use Rattle.comparing.specs.Stretches.{Slice, partOf, shorterPart}
 
--- a comparison that is known to be s: its stretch is there, and handed back in its place
+-- a comparison that is known to be s: its stretch has no more numbers than either buffer, and is handed back in its place
 module _ (S : ℕ) (first second : Slice) {r : Comparison} (s : Comparison) (known : r ≡ s) (told : stretchOf r ≡ shorter S (first .now) (second .now)) where
   same-stretch : stretchOf s ≡ shorter S (first .now) (second .now)
   same-stretch = sym (ap stretchOf known) ∙ told
 
-  pub there : stretchOf s .count ≤ length (pick (stretchOf s .buffer) (first .now) (second .now))
+  pub there : Within S (first .now) (second .now) (stretchOf s)
   there = rw same-stretch (shorter-within S (first .now) (second .now))
 
   pub handed : partOf (stretchOf s) first second ≡ shorterPart S first second
@@ -56,5 +55,5 @@ module _ (S : ℕ) (xs ys : List ℕ) where
       pub compared : leadingVerdict S ys ≡ fine
           → (r : Comparison) (n m : ℕ) → verdictOf r ≡ fine → stretchOf r ≡ fewer n m → n ≡ numbersTaken S xs → m ≡ numbersTaken S ys → Says r
       compared good-second r n m told hands same-first same-second =
-          let e = second-verdict S xs ys some good ∙ second-fine _ good-second in
+          let e = second-verdict S xs ys some good ∙ second-fine _ .1 good-second in
           (told ∙ sym e, hands ∙ rw (same-first, same-second) (sym (shorter-fine S xs ys e)))

@@ -58,9 +58,8 @@ fn fewer(n: usize, m: usize) -> Comparison
     Comparison::First(n)
 }
 
-// Compares the trees that two buffers begin with: both answers at once. The second buffer is looked at only if nothing is wrong with
-// the first.
-pub fn compare(symbols: usize, first: &[u16], second: &[u16]) -> Comparison
+// Compares the trees that two buffers begin with. The second buffer is looked at only if nothing is wrong with the first.
+fn compare(symbols: usize, first: &[u16], second: &[u16]) -> Comparison
     ensures { λ r. ⌜ verdictOf r ≡ shorterVerdict symbols (now (first .entry)) (now (second .entry)) ⌝ }
     ensures { λ r. ⌜ stretchOf r ≡ model.shorter symbols (now (first .entry)) (now (second .entry)) ⌝ }
 {

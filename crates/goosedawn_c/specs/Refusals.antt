@@ -1,5 +1,6 @@
--- A refusal told by its number and place, and nothing refused by the number 0; and that no two verdicts of comparing are told so.
-use mathlib.Core.Path.{_≡_, refl}
+-- A refusal told by its number and place, and nothing refused by the number 0: no two verdicts of comparing are told alike. And what a
+-- caller in C or Rust may conclude from the two answers of comparing.
+use mathlib.Core.Path.{_≡_, refl, ap, _∙_}
 use mathlib.Core.List.{List}
 use Prim.Native.Nat.{ℕ}
 use native.Mathlib.Omega.{arith}
@@ -9,6 +10,8 @@ use Rattle.foundation.specs.Tests.{choose}
 use Rattle.model.specs.Answers.{Verdict, fine, refused}
 use Rattle.model.specs.Shorter.{shorterVerdict}
 use Rattle.model.proofs.Meaning.Shorter.{refused-number}
+use Rattle.comparing.specs.Stretches.{Slice, Part, shorterPart}
+use Rattle.comparing.specs.Calls.{CallMeans, call-means}
 use Rattle.goosedawn_c.specs.declared.shorter.Told.{Told}
 
 abbrev pub told : (number place : ℕ) → Told
@@ -29,3 +32,9 @@ verdict-told S xs ys = go (shorterVerdict S xs ys) refl
     go : (v : Verdict) → shorterVerdict S xs ys ≡ v → verdictOfTold (toldOf v) ≡ v
     go fine e = refl
     go (refused number place) e = rw (ne-eqb number 0 (λ zero. omega (arith, zero, refused-number S xs ys number place e)))
+
+-- by what the two functions promise
+pub shorter-call : (S : ℕ) (first second : Slice) (part : Part) (r : Told) → part ≡ shorterPart S first second
+    → r ≡ toldOf (shorterVerdict S (first .now) (second .now)) → CallMeans S first second part (verdictOfTold r)
+shorter-call S first second part r came tells =
+    call-means S first second part (verdictOfTold r) came (ap verdictOfTold tells ∙ verdict-told S (first .now) (second .now))

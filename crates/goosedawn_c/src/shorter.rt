@@ -17,6 +17,7 @@ pub struct Told {
     pub place: usize,
 }
 
+// A number and a place, as they are told.
 fn tell(number: usize, place: usize) -> Told
     ensures { λ r. ⌜ r ≡ told number place ⌝ }
 {
@@ -33,6 +34,7 @@ fn tell_document(endless: usize, faulty: usize, fault: DocumentFault) -> Told
     }
 }
 
+// Why two buffers are not compared: 1, the numbers of the first buffer, or those of the second.
 fn tell_fault(fault: ComparingFault) -> Told
     ensures { λ r. ⌜ r ≡ toldOf (faultVerdict fault) ⌝ }
 {
@@ -43,6 +45,7 @@ fn tell_fault(fault: ComparingFault) -> Told
     }
 }
 
+// What the second question says: 0 for nothing.
 fn tell_refusal(refusal: Refusal) -> Told
     ensures { λ r. ⌜ r ≡ toldOf (refusalVerdict refusal) ⌝ }
 {

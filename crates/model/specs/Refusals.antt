@@ -95,19 +95,27 @@ pub data Fault (S : ℕ) (numbers : List ℕ) (place : ℕ) : Type 0 where
 abbrev pub Endless : ℕ → List ℕ → Type 0
 Endless S numbers = GoesOn S numbers mostNumbers × (mostNumbers < length numbers)
 
--- "11 is given exactly if ..", with document 01's place (the length); then 12
+-- what is wrong with the document that numbers begin with, by the two numbers that tell it, with document 01's places
+abbrev pub documentReasons : (endless faulty : ℕ) → ℕ → List ℕ → List Reason
+documentReasons endless faulty S numbers = only endless (Endless S numbers) (length numbers) ∷ withNumber faulty (Fault S numbers) ∷ []
+
+-- "11 is given exactly if .."; then 12
 abbrev pub leadingReasons : ℕ → List ℕ → List Reason
-leadingReasons S numbers = only 11 (Endless S numbers) (length numbers) ∷ withNumber 12 (Fault S numbers) ∷ []
+leadingReasons S numbers = documentReasons 11 12 S numbers
 
 -- "Judging and running use the leading tree": "a document is its symbols in preorder, 1 to 1,023 numbers"
 pub record LeadingDocument (S : ℕ) (numbers : List ℕ) (tree : Tree) (taken : ℕ) : Type 0 where
   pub begins : BeginsWith S numbers tree taken
   pub few : taken ≤ mostNumbers
 
+-- the numbers begin with a document
+abbrev pub HasDocument : ℕ → List ℕ → Type 0
+HasDocument S numbers = (tree : Tree) × (taken : ℕ) × LeadingDocument S numbers tree taken
+
 -- what is read of numbers: exactly if they begin with a document nothing is refused, and which tree and how many numbers are read then
 pub record ReadsLeading (S : ℕ) (numbers : List ℕ) : Type 0 where
   pub refuses : RefusesFor (leadingReasons S numbers) (leadingVerdict S numbers)
-  pub passes : (leadingVerdict S numbers ≡ fine) ↔ ((tree : Tree) × (taken : ℕ) × LeadingDocument S numbers tree taken)
+  pub passes : (leadingVerdict S numbers ≡ fine) ↔ HasDocument S numbers
   pub tree : (tree : Tree) (taken : ℕ) → LeadingDocument S numbers tree taken → leadingTree S numbers ≡ tree
   pub taken : (tree : Tree) (taken : ℕ) → LeadingDocument S numbers tree taken → numbersTaken S numbers ≡ taken
 

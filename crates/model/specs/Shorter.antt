@@ -1,17 +1,17 @@
 -- The shorter of two examples, change request W-207: which stretch of two buffers comes back and what is refused, and as statements
 -- what that means. proofs/Meaning/Shorter.antt proves them.
 use mathlib.Core.Path.{_≡_}
-use mathlib.Core.List.{List, [], _∷_, _++_}
+use mathlib.Core.List.{List, _∷_, _++_}
 use mathlib.Core.Logic.{_↔_}
 use Prim.Native.Nat.{ℕ, _≤_}
 use lib.Dec.{eqb, ltb}
-use lib.ListN.{length, take}
+use lib.ListN.{take}
 use Rattle.foundation.specs.Tests.{choose}
 use Rattle.model.specs.Trees.{Tree, preorder}
 use Rattle.model.specs.Answers.{Verdict, fine, refused, refuseIf, _then_, given}
 use Rattle.model.specs.Admission.{outside}
 use Rattle.model.specs.Documents.{numbersTaken, leadingVerdict}
-use Rattle.model.specs.Refusals.{Reason, RefusesFor, only, withNumber, Fault, Endless, LeadingDocument, leadingReasons}
+use Rattle.model.specs.Refusals.{Reason, RefusesFor, only, LeadingDocument, HasDocument, documentReasons, leadingReasons}
 
 -- "two buffers, each meant to start with a tree"
 pub data Buffer : Type 0 where
@@ -64,18 +64,12 @@ unfoldable pub shorter : ℕ → (xs ys : List ℕ) → Stretch
 shorter S xs ys = given (shorterVerdict S xs ys) (λ number place. emptyStretch) (fewer (numbersTaken S xs) (numbersTaken S ys))
 
 -- "Symbols S, 1 to 16"
-abbrev pub InRange : ℕ → Type 0
-InRange S = (1 ≤ S) × (S ≤ 16)
+abbrev pub SymbolsInRange : ℕ → Type 0
+SymbolsInRange S = (1 ≤ S) × (S ≤ 16)
 
 -- the reasons to refuse, in their order
 abbrev pub shorterReasons : ℕ → (xs ys : List ℕ) → List Reason
-shorterReasons S xs ys =
-    only 1 (InRange S → ⊥) 0
-    ∷ (leadingReasons S xs ++ (only 54 (Endless S ys) (length ys) ∷ withNumber 55 (Fault S ys) ∷ []))
-
--- the numbers begin with a document
-abbrev pub Good : ℕ → List ℕ → Type 0
-Good S numbers = (tree : Tree) × (taken : ℕ) × LeadingDocument S numbers tree taken
+shorterReasons S xs ys = only 1 (SymbolsInRange S → ⊥) 0 ∷ (leadingReasons S xs ++ documentReasons 54 55 S ys)
 
 -- the stretch is the tree that its buffer begins with, and the other buffer's tree has no fewer numbers; "on a tie, the first buffer's"
 pub record ShorterTree (S : ℕ) (xs ys : List ℕ) (s : Stretch) : Type 0 where
@@ -89,7 +83,7 @@ pub record ShorterTree (S : ℕ) (xs ys : List ℕ) (s : Stretch) : Type 0 where
 pub record Compares (S : ℕ) (xs ys : List ℕ) : Type 0 where
   -- "a second question tells its number and place, or none"
   pub refuses : RefusesFor (shorterReasons S xs ys) (shorterVerdict S xs ys)
-  pub passes : (shorterVerdict S xs ys ≡ fine) ↔ (InRange S × Good S xs × Good S ys)
+  pub passes : (shorterVerdict S xs ys ≡ fine) ↔ (SymbolsInRange S × HasDocument S xs × HasDocument S ys)
   pub hands : shorterVerdict S xs ys ≡ fine → ShorterTree S xs ys (shorter S xs ys)
   pub handsSome : shorterVerdict S xs ys ≡ fine → 1 ≤ shorter S xs ys .count
   pub handsNothing : (number place : ℕ) → shorterVerdict S xs ys ≡ refused number place → shorter S xs ys ≡ inFirst 0

@@ -1,4 +1,6 @@
--- The worked contracts, the table of questions and answers, and the claim that the definitions give just these.
+-- The worked contracts, the table of questions and answers, and pairs of examples, with the claims that the definitions give just
+-- these.
 pub mod Questions
 pub mod Contracts
 pub mod Table
+pub mod Examples

@@ -16,8 +16,8 @@ prints its answers. docs/FORMAT.md lists the statements. Beside those of the pro
     taken    prints how many numbers the last judge or run took: `taken N`, or `taken none` if it was refused
 
     shorter S N .. and N ..
-             prints of two documents over S symbols, which the numbers begin with, the one with fewer numbers: `shorter
-             first COUNT: N ..` or `shorter second COUNT: N ..`, or a refusal
+             prints the shorter of the documents over S symbols that the two lists begin with, the first on a tie:
+             `shorter first COUNT: N ..` or `shorter second COUNT: N ..`, or a refusal
 
 The status is 0; or 2 if the script has a fault, which the last line names, if it cannot be read or its answers cannot be
 printed, or if there is more than one argument.

@@ -14,13 +14,13 @@ enum-known-count : tie.Need-enum-known-count
 enum-known-count c = search needs
 
 slice-aggregate-result : tie.Need-slice-aggregate-result
-slice-aggregate-result c = sym (length-take-le _ _ (omega (arith, there _ (c .before .before .before .before .before .before .before .args .first) (c .before .before .before .before .before .before .before .args .second) _ (c .before .before .count .given .1) (c .before .before .before .before .compare .ensures .1))))
+slice-aggregate-result c = let fits = there _ (c .before .before .before .before .before .before .before .args .first) (c .before .before .before .before .before .before .before .args .second) _ (c .before .before .count .given .1) (c .before .before .before .before .compare .ensures .1) in sym (length-take-le _ _ (omega (arith, fits)))
 
 enum-known-count-2 : tie.Need-enum-known-count-2
 enum-known-count-2 c = search needs
 
 slice-aggregate-result-2 : tie.Need-slice-aggregate-result-2
-slice-aggregate-result-2 c = sym (length-take-le _ _ (omega (arith, there _ (c .before .before .before .before .before .before .before .args .first) (c .before .before .before .before .before .before .before .args .second) _ (c .before .before .count2 .given .1) (c .before .before .before .before .compare .ensures .1))))
+slice-aggregate-result-2 c = let fits = there _ (c .before .before .before .before .before .before .before .args .first) (c .before .before .before .before .before .before .before .args .second) _ (c .before .before .count2 .given .1) (c .before .before .before .before .compare .ensures .1) in sym (length-take-le _ _ (omega (arith, fits)))
 
 enum-told : tie.Need-enum-told
 enum-told c = search needs

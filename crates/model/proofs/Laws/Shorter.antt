@@ -1,36 +1,41 @@
 -- Laws of comparing two examples: what is refused, what is handed back, and that it lies in its buffer.
-use mathlib.Core.Path.{_≡_, refl, ap, sym, subst, _∙_}
-use mathlib.Core.Bool.{Bool, true, false}
+use mathlib.Core.Path.{_≡_, refl, sym, subst, _∙_}
+use mathlib.Core.Bool.{true, false}
 use mathlib.Core.List.{List}
+use mathlib.Core.Logic.{_↔_}
 use Prim.Native.Nat.{ℕ, _≤_, _<_, zero-le}
-use borrow.Author.Tests.{ltb-true, ltb-false}
-use lib.Dec.{ltb}
+use native.Mathlib.Decide.{decLt}
+use native.Mathlib.Omega.{arith}
+use borrow.Author.Tests.{lt-ltb, le-ltb}
 use lib.ListN.{length}
-use Rattle.foundation.specs.Tests.{choose}
 use Rattle.model.specs.Answers.{Verdict, fine, refused, given}
 use Rattle.model.specs.Admission.{outside}
 use Rattle.model.specs.Documents.{numbersTaken, leadingVerdict}
-use Rattle.model.specs.Shorter.{pick, Stretch, inFirst, inSecond, ofSecond, shorterVerdict, fewer, emptyStretch, shorter}
+use Rattle.model.specs.Shorter.{Stretch, inFirst, inSecond, ofSecond, shorterVerdict, fewer, emptyStretch, shorter}
 use Rattle.model.proofs.Laws.Answers.{refused-not-fine, then-fine, then-passed, then-refused, refuse-if-fine, refuse-if-passed, refuse-if-refused}
 use Rattle.model.proofs.Laws.Documents.{leading-fine}
 
-pub second-fine : (v : Verdict) → v ≡ fine → ofSecond v ≡ fine
+-- nothing is refused of the second buffer exactly if nothing is wrong with it
+pub second-fine : (v : Verdict) → (ofSecond v ≡ fine) ↔ (v ≡ fine)
 unfolding ofSecond
-second-fine v e = ap ofSecond e
-
-pub of-second-fine : (v : Verdict) → ofSecond v ≡ fine → v ≡ fine
-unfolding ofSecond
-of-second-fine fine e = refl
-of-second-fine (refused number place) e = absurd (refused-not-fine _ place e)
+second-fine fine = (λ e. refl, λ e. refl)
+second-fine (refused number place) = (λ e. absurd (refused-not-fine _ place e), λ e. absurd (refused-not-fine number place e))
 
 -- which tree has fewer numbers; on a tie, the first buffer's
-pub fewer-has : (P : Stretch → Type 0) (n m : ℕ) → (n ≤ m → P (inFirst n)) → (m < n → P (inSecond m)) → P (fewer n m)
+pub fewer-first : (n m : ℕ) → n ≤ m → fewer n m ≡ inFirst n
 unfolding fewer
-fewer-has P n m of-first of-second = go (ltb m n) refl
+fewer-first n m few = rw le-ltb
+
+pub fewer-second : (n m : ℕ) → m < n → fewer n m ≡ inSecond m
+unfolding fewer
+fewer-second n m few = rw lt-ltb
+
+pub fewer-has : (P : Stretch → Type 0) (n m : ℕ) → (n ≤ m → P (inFirst n)) → (m < n → P (inSecond m)) → P (fewer n m)
+fewer-has P n m of-first of-second = go (decLt m n)
   where
-    go : (test : Bool) → ltb m n ≡ test → P (choose test (inSecond m) (inFirst n))
-    go true e = of-second (ltb-true m n e)
-    go false e = of-first (ltb-false m n e)
+    go : Dec (m < n) → P (fewer n m)
+    go (yes few) = subst P (sym (fewer-second n m few)) (of-second few)
+    go (no more) = let few : n ≤ m = omega arith in subst P (sym (fewer-first n m few)) (of-first few)
 
 module _ (S : ℕ) (xs ys : List ℕ) where
   -- what is refused, in the order of the tests
@@ -50,15 +55,15 @@ module _ (S : ℕ) (xs ys : List ℕ) where
   -- where nothing is refused, nothing is wrong with the symbols and with either buffer
   pub record Compared : Type 0 where
     pub symbols : outside 1 16 S ≡ false
-    pub ofFirst : leadingVerdict S xs ≡ fine
-    pub ofSecond : leadingVerdict S ys ≡ fine
+    pub firstFine : leadingVerdict S xs ≡ fine
+    pub secondFine : leadingVerdict S ys ≡ fine
 
   pub nothing-refused : shorterVerdict S xs ys ≡ fine → Compared
   unfolding shorterVerdict
   nothing-refused e =
       let (some, rest) = then-fine _ _ e in
       let (one, two) = then-fine _ _ rest in
-      record { symbols = refuse-if-fine _ 1 0 some; ofFirst = one; ofSecond = of-second-fine _ two }
+      record { symbols = refuse-if-fine _ 1 0 some; firstFine = one; secondFine = second-fine _ .0 two }
 
   -- what is handed back
   pub shorter-refused : (number place : ℕ) → shorterVerdict S xs ys ≡ refused number place → shorter S xs ys ≡ emptyStretch
@@ -69,15 +74,20 @@ module _ (S : ℕ) (xs ys : List ℕ) where
   unfolding shorter given
   shorter-fine e = rw e
 
-  pub shorter-within : shorter S xs ys .count ≤ length (pick (shorter S xs ys .buffer) xs ys)
+  -- it has no more numbers than either buffer
+  pub record Within (s : Stretch) : Type 0 where
+    pub ofFirst : s .count ≤ length xs
+    pub ofSecond : s .count ≤ length ys
+
+  pub shorter-within : Within (shorter S xs ys)
   shorter-within = go (shorterVerdict S xs ys) refl
     where
-      Within : Stretch → Type 0
-      Within s = s .count ≤ length (pick (s .buffer) xs ys)
-
       go : (v : Verdict) → shorterVerdict S xs ys ≡ v → Within (shorter S xs ys)
-      go (refused number place) e = subst Within (sym (shorter-refused number place e)) zero-le
+      go (refused number place) e = subst Within (sym (shorter-refused number place e)) (record { ofFirst = zero-le; ofSecond = zero-le })
       go fine e =
-          let compared = nothing-refused e in
+          let c = nothing-refused e in
+          let one = leading-fine S xs (c .firstFine) .within in
+          let two = leading-fine S ys (c .secondFine) .within in
           subst Within (sym (shorter-fine e))
-          (fewer-has Within _ _ (λ few. leading-fine S xs (compared .ofFirst) .within) (λ few. leading-fine S ys (compared .ofSecond) .within))
+          (fewer-has Within _ _ (λ few. record { ofFirst = one; ofSecond = omega (arith, two, few) })
+          (λ few. record { ofFirst = omega (arith, one, few); ofSecond = two }))

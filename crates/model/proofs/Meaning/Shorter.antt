@@ -12,13 +12,13 @@ use Rattle.model.specs.Trees.{preorder}
 use Rattle.model.specs.Answers.{Verdict, fine, refused}
 use Rattle.model.specs.Admission.{outside}
 use Rattle.model.specs.Documents.{numbersTaken, leadingTree, leadingVerdict}
-use Rattle.model.specs.Refusals.{Reason, NoReason, FirstReason, RefusesFor, withNumber, leadingReasons}
-use Rattle.model.specs.Shorter.{ofSecond, shorterVerdict, shorter, InRange, shorterReasons, Good, ShorterTree, Compares}
-use Rattle.model.proofs.Laws.Answers.{refused-not-fine, refuse-if-fine}
+use Rattle.model.specs.Refusals.{Reason, NoReason, FirstReason, RefusesFor, withNumber, leadingReasons, HasDocument}
+use Rattle.model.specs.Shorter.{ofSecond, shorterVerdict, shorter, SymbolsInRange, shorterReasons, ShorterTree, Compares}
+use Rattle.model.proofs.Laws.Answers.{refused-not-fine, refuse-if-fine, Numbers, then-numbers, refused-numbers, refuse-if-numbers}
 use Rattle.model.proofs.Laws.Tests.{inside, not-outside}
 use Rattle.model.proofs.Laws.Documents.{some-number, leading-fine}
-use Rattle.model.proofs.Laws.Shorter.{second-fine, of-second-fine, fewer-has, second-verdict, nothing-refused, shorter-refused, shorter-fine}
-use Rattle.model.proofs.Meaning.Verdicts.{then-for, only-for, leading-refusals, fine-document, reads-leading}
+use Rattle.model.proofs.Laws.Shorter.{second-fine, fewer-has, second-verdict, nothing-refused, shorter-refused, shorter-fine}
+use Rattle.model.proofs.Meaning.Verdicts.{then-for, only-for, leading-refusals, document-numbers, fine-document, reads-leading}
 
 -- "the same for the second as 54 and 55": what is refused as 11 and 12 is refused as 54 and 55, for the same reasons
 module _ (A B : ℕ → Type 0) where
@@ -65,20 +65,29 @@ module _ (A B : ℕ → Type 0) where
     second-for =
         record {
           refuses = λ number place. (told-first v refl number place, first-told number place);
-          passes = (λ e. none-told .0 (for .passes .0 (of-second-fine v e)), λ none. second-fine v (for .passes .1 (none-told .1 none)));
+          passes = (λ e. none-told .0 (for .passes .0 (second-fine v .0 e)), λ none. second-fine v .1 (for .passes .1 (none-told .1 none)));
         }
 
-in-range : (S : ℕ) → outside 1 16 S ≡ false → InRange S
+in-range : (S : ℕ) → outside 1 16 S ≡ false → SymbolsInRange S
 in-range S e = let b = inside 1 16 S e in (b .least≤, b .≤most)
 
+second-numbers : (P : ℕ → Type 0) (v : Verdict) → P 54 → P 55 → Numbers P (ofSecond v)
+unfolding ofSecond
+second-numbers P fine first second = λ number place e. absurd (refused-not-fine number place (sym e))
+second-numbers P (refused m q) first second = refused-numbers P _ q (either (eqb m 11))
+  where
+    either : (test : Bool) → P (choose test 54 55)
+    either true = first
+    either false = second
+
 -- "a symbol count out of range"
-range : (S : ℕ) → (outside 1 16 S ≡ true) ↔ (InRange S → ⊥)
+range : (S : ℕ) → (outside 1 16 S ≡ true) ↔ (SymbolsInRange S → ⊥)
 range S = (
   λ e within. true≢false (sym e ∙ not-outside 1 16 S (within .0) (within .1)),
   λ never. go never (outside 1 16 S) refl,
 )
   where
-    go : (InRange S → ⊥) → (test : Bool) → outside 1 16 S ≡ test → outside 1 16 S ≡ true
+    go : (SymbolsInRange S → ⊥) → (test : Bool) → outside 1 16 S ≡ test → outside 1 16 S ≡ true
     go never true e = e
     go never false e = absurd (never (in-range S e))
 
@@ -91,21 +100,21 @@ module _ (S : ℕ) (xs ys : List ℕ) where
   refuses-for : RefusesFor (shorterReasons S xs ys) (shorterVerdict S xs ys)
   unfolding shorterVerdict
   refuses-for =
-      then-for _ _ _ _ (only-for _ (InRange S → ⊥) 1 0 (range S)) λ e.
+      then-for _ _ _ _ (only-for _ (SymbolsInRange S → ⊥) 1 0 (range S)) λ e.
       let some : 1 ≤ S = in-range S (refuse-if-fine _ 1 0 e) .0 in
       then-for _ _ (leadingReasons S xs) _ (leading-refusals S xs some) λ one.
       second-for _ _ (leadingVerdict S ys) (leading-refusals S ys some)
 
-  both-good : shorterVerdict S xs ys ≡ fine → InRange S × Good S xs × Good S ys
+  both-good : shorterVerdict S xs ys ≡ fine → SymbolsInRange S × HasDocument S xs × HasDocument S ys
   both-good e =
       let c = nothing-refused S xs ys e in
       let some : 1 ≤ S = in-range S (c .symbols) .0 in
-      (in-range S (c .symbols), reads-leading S xs some .passes .0 (c .ofFirst), reads-leading S ys some .passes .0 (c .ofSecond))
+      (in-range S (c .symbols), reads-leading S xs some .passes .0 (c .firstFine), reads-leading S ys some .passes .0 (c .secondFine))
 
-  good-both : InRange S × Good S xs × Good S ys → shorterVerdict S xs ys ≡ fine
+  good-both : SymbolsInRange S × HasDocument S xs × HasDocument S ys → shorterVerdict S xs ys ≡ fine
   good-both (within, one, two) =
       second-verdict S xs ys (not-outside 1 16 S (within .0) (within .1)) (reads-leading S xs (within .0) .passes .1 one)
-      ∙ second-fine _ (reads-leading S ys (within .0) .passes .1 two)
+      ∙ second-fine _ .1 (reads-leading S ys (within .0) .passes .1 two)
 
   shorter-tree : shorterVerdict S xs ys ≡ fine → ShorterTree S xs ys (shorter S xs ys)
   shorter-tree e =
@@ -116,31 +125,29 @@ module _ (S : ℕ) (xs ys : List ℕ) where
       (λ few.
       record {
         tree = leadingTree S xs;
-        leads = fine-document S xs (c .ofFirst);
-        inPreorder = tree-numbers S xs (c .ofFirst);
+        leads = fine-document S xs (c .firstFine);
+        inPreorder = tree-numbers S xs (c .firstFine);
         notLonger = λ u m d. omega (arith, few, reads-leading S ys some .taken u m d);
         onTie = λ u m d tie. refl;
       })
       (λ few.
       record {
         tree = leadingTree S ys;
-        leads = fine-document S ys (c .ofSecond);
-        inPreorder = tree-numbers S ys (c .ofSecond);
+        leads = fine-document S ys (c .secondFine);
+        inPreorder = tree-numbers S ys (c .secondFine);
         notLonger = λ u m d. omega (arith, few, reads-leading S xs some .taken u m d);
         onTie = λ u m d tie. absurd (omega (arith, few, tie, reads-leading S xs some .taken u m d));
       }))
 
-  first-some : (number place : ℕ) → FirstReason (shorterReasons S xs ys) number place → 1 ≤ number
-  first-some number place (inl (same, _)) = omega (arith, same)
-  first-some number place (inr (_, inl (same, _))) = omega (arith, same)
-  first-some number place (inr (_, inr (_, inl (same, _)))) = omega (arith, same)
-  first-some number place (inr (_, inr (_, inr (_, inl (same, _))))) = omega (arith, same)
-  first-some number place (inr (_, inr (_, inr (_, inr (_, inl (same, _)))))) = omega (arith, same)
-  first-some number place (inr (_, inr (_, inr (_, inr (_, inr (_, never)))))) = absurd never
-
   -- no refusal has the number 0
   pub refused-number : (number place : ℕ) → shorterVerdict S xs ys ≡ refused number place → 1 ≤ number
-  refused-number number place e = first-some number place (refuses-for .refuses number place .0 e)
+  unfolding shorterVerdict
+  refused-number =
+      then-numbers Some _ _ (refuse-if-numbers Some _ 1 0 (omega arith))
+      (then-numbers Some _ _ (document-numbers Some S xs (omega arith) (omega arith)) (second-numbers Some (leadingVerdict S ys) (omega arith) (omega arith)))
+    where
+      Some : ℕ → Type 0
+      Some number = 1 ≤ number
 
   pub compares : Compares S xs ys
   compares =

@@ -253,16 +253,21 @@ checking-numbers C L rowBuffer wordBuffer =
     then-numbers _ _ _ (λ number place e ten. not-late number (admission-numbers C number place e) (omega arith) (omega arith))
     (refuse-first-numbers _ 9 _ 3 (λ ten. omega arith))
 
+-- of a document: 11 and 12
+pub document-numbers : (P : ℕ → Type 0) (S : ℕ) (numbers : List ℕ) → P 11 → P 12 → Numbers P (leadingVerdict S numbers)
+unfolding leadingVerdict faultOf
+document-numbers P S numbers eleven twelve = then-numbers P _ _ (refuse-if-numbers P _ 11 _ eleven) (fault (reading S numbers))
+  where
+    fault : (l : Leading) → Numbers P (faultOf l)
+    fault (ends place) = λ number at e. absurd (refused-not-fine number at (sym e))
+    fault (faulty place) = refused-numbers P 12 place twelve
+
 pub running-numbers : (C : Contract) (numbers buffer : List ℕ) → Numbers NotOfRun (runningVerdict C numbers buffer)
-unfolding runningVerdict leadingVerdict faultOf
+unfolding runningVerdict
 running-numbers C numbers buffer =
     then-numbers _ _ _ (λ number place e l m. not-late number (admission-numbers C number place e) (omega arith) m)
     (then-numbers _ _ _ (refuse-if-numbers _ _ 9 0 (λ l m. omega arith))
-    (then-numbers _ _ _ (refuse-if-numbers _ _ 11 _ (λ l m. omega arith)) (fault (reading (C .transformation .symbols) numbers))))
-  where
-    fault : (l : Leading) → Numbers NotOfRun (faultOf l)
-    fault (ends place) = λ number at e. absurd (refused-not-fine number at (sym e))
-    fault (faulty place) = refused-numbers _ 12 place (λ l m. omega arith)
+    (document-numbers _ _ numbers (λ l m. omega arith) (λ l m. omega arith)))
 
 -- What is read of numbers
 
