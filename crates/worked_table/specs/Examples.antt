@@ -1,4 +1,4 @@
--- Two examples at a time, as one table: which stretch comes back, and what is refused. The checker computes every line of it.
+-- Two examples at a time, as two tables: which stretch comes back, and what is refused. The checker computes every line of them.
 use mathlib.Core.Path.{_≡_, refl}
 use mathlib.Core.List.{List, [], _∷_, map}
 use Prim.Native.Nat.{ℕ}
@@ -28,7 +28,6 @@ pairs =
     ∷ compared 2 (1 ∷ 0 ∷ 0 ∷ []) (1 ∷ 0 ∷ 0 ∷ []) (inFirst 3)
     -- what follows a tree does not count, whatever it is
     ∷ compared 2 (0 ∷ 65535 ∷ 1 ∷ 1 ∷ []) (1 ∷ 0 ∷ 0 ∷ []) (inFirst 1)
-    ∷ compared 2 (1 ∷ 0 ∷ 0 ∷ []) (0 ∷ replicate 1023 1) (inSecond 1)
     -- symbols
     ∷ stopped 0 (0 ∷ []) (0 ∷ []) 1 0
     ∷ compared 1 (0 ∷ []) (0 ∷ []) (inFirst 1)
@@ -36,10 +35,16 @@ pairs =
     ∷ stopped 17 (0 ∷ []) (0 ∷ []) 1 0
     -- the first buffer, also where the second is bad too
     ∷ stopped 2 (1 ∷ 0 ∷ []) (2 ∷ []) 12 2
-    ∷ stopped 2 (replicate 1024 1) [] 11 1024
     -- the second buffer, also where the first tree is shorter
     ∷ stopped 2 (0 ∷ []) (1 ∷ 2 ∷ 0 ∷ []) 55 1
     ∷ stopped 2 (0 ∷ []) [] 55 0
+    ∷ []
+
+-- more than 1,023 numbers, or just as many: behind the tree, in the first buffer, and in the second
+abbrev pub longPairs : List Pair
+longPairs =
+    compared 2 (1 ∷ 0 ∷ 0 ∷ []) (0 ∷ replicate 1023 1) (inSecond 1)
+    ∷ stopped 2 (replicate 1024 1) [] 11 1024
     ∷ stopped 2 (0 ∷ []) (replicate 1023 1) 55 1023
     ∷ stopped 2 (0 ∷ []) (replicate 1024 1) 54 1024
     ∷ []
@@ -59,3 +64,7 @@ asked p =
 pub examples : map asked pairs ≡ pairs
 unfolding computing ofSecond shorterVerdict fewer shorter
 examples = refl
+
+pub long-examples : map asked longPairs ≡ longPairs
+unfolding computing ofSecond shorterVerdict fewer shorter
+long-examples = refl
