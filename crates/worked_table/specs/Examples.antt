@@ -7,6 +7,7 @@ use Rattle.model.specs.Answers.{Verdict, fine, refused}
 use Rattle.model.specs.Shorter.{Stretch, inFirst, inSecond, ofSecond, shorterVerdict, fewer, shorter}
 use Rattle.worked_table.specs.Table.{computing}
 
+-- two buffers, with the verdict and the stretch due
 pub record Pair : Type 0 where
   pub symbols : ℕ
   pub first : List ℕ
@@ -14,9 +15,11 @@ pub record Pair : Type 0 where
   pub verdict : Verdict
   pub stretch : Stretch
 
+-- nothing is refused
 abbrev pub compared : ℕ → (xs ys : List ℕ) → Stretch → Pair
 compared S xs ys s = record { symbols = S; first = xs; second = ys; verdict = fine; stretch = s }
 
+-- something is
 abbrev pub stopped : ℕ → (xs ys : List ℕ) → (number place : ℕ) → Pair
 stopped S xs ys number place = record { symbols = S; first = xs; second = ys; verdict = refused number place; stretch = inFirst 0 }
 
@@ -28,7 +31,7 @@ pairs =
     ∷ compared 2 (1 ∷ 0 ∷ 0 ∷ []) (1 ∷ 0 ∷ 0 ∷ []) (inFirst 3)
     -- what follows a tree does not count, whatever it is
     ∷ compared 2 (0 ∷ 65535 ∷ 1 ∷ 1 ∷ []) (1 ∷ 0 ∷ 0 ∷ []) (inFirst 1)
-    -- symbols
+    -- no symbols, one, sixteen, seventeen
     ∷ stopped 0 (0 ∷ []) (0 ∷ []) 1 0
     ∷ compared 1 (0 ∷ []) (0 ∷ []) (inFirst 1)
     ∷ compared 16 (15 ∷ 0 ∷ 0 ∷ []) (0 ∷ []) (inSecond 1)
