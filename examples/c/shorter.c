@@ -10,7 +10,8 @@ static const uint16_t rules[] = {0, 0, 0, 0, 1, 3};
 static const uint16_t old_table[] = {0, 1, 1, 2, 2, 2, 2, 2, 2, 2}, old_marks[] = {1, 1, 0};
 static const uint16_t new_table[] = {0, 1, 1, 1, 1}, new_marks[] = {1, 0};
 
-/* Writes out the document that the contract with this output type shows: how many numbers, or 0 if it shows none. */
+/* Writes out the document that the contract with this output type shows: how many numbers it has, or 0 if the contract
+ * shows none or it does not fit. */
 static size_t write_shown(size_t states, const uint16_t *table, size_t table_length, const uint16_t *marks,
                           uint16_t *document, size_t document_length) {
     static uint16_t rows[3 * 512];
@@ -41,6 +42,7 @@ int main(void) {
     static uint16_t old_document[1023], new_document[1023];
     size_t old_length = write_shown(3, old_table, 10, old_marks, old_document, 1023);
     size_t new_length = write_shown(2, new_table, 5, new_marks, new_document, 1023);
+    if (old_length == 0 || new_length == 0) return printf("a contract shows no document, or a longer one\n"), 1;
     print_shorter(old_document, old_length, new_document, new_length);
     /* the same without the last number of the new document */
     print_shorter(old_document, old_length, new_document, new_length - 1);

@@ -94,7 +94,7 @@ pub trait Engine {
     /// assert_eq!(shorter.len(), 1);
     /// ```
     ///
-    /// It may be used after the engine is gone:
+    /// It may be used after the engine is gone (but for their scopes the two above are this example):
     ///
     /// ```
     /// # use goosedawn::engine::Engine;

@@ -205,7 +205,7 @@ impl Library {
     }
 
     /// An older build, which `tests/compare` renames and links beside the present one. How many numbers a document took
-    /// is not to be read from its answers. Comparing is the present build's: an older one may not have it.
+    /// is not to be read from its answers. `shorter` and `shorter_refusal` are the present build's: an older one may not have them.
     #[cfg(feature = "compare")]
     pub fn old() -> Library {
         Library { functions: OLD, run_stack: RUN_STACK }

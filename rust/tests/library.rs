@@ -27,7 +27,7 @@ struct Counted {
     checks: Cell<usize>,
     runs: Cell<usize>,
     writings: Cell<usize>,
-    comparisons: Cell<usize>,
+    pairs: Cell<usize>,
 }
 
 fn count(cell: &Cell<usize>) {
@@ -59,7 +59,7 @@ impl Engine for Counted {
         self.library.shorter(symbols, first, second)
     }
     fn shorter_refusal(&self, symbols: usize, first: &[u16], second: &[u16]) -> Option<Refusal> {
-        count(&self.comparisons);
+        count(&self.pairs);
         self.library.shorter_refusal(symbols, first, second)
     }
 }
@@ -79,7 +79,7 @@ fn agrees(script: &Path, answers: &Path) -> bool {
         engine.checks.get(),
         engine.runs.get(),
         engine.writings.get(),
-        engine.comparisons.get(),
+        engine.pairs.get(),
     );
     if let Some((said, right)) = said.lines().zip(right.lines()).find(|(said, right)| said != right) {
         println!("  {said} instead of {right}");

@@ -7,7 +7,7 @@ use Rattle.model.specs.Answers.{fine, refused}
 use Rattle.model.specs.Admission.{outside}
 use Rattle.model.specs.Documents.{numbersTaken, leadingVerdict}
 use Rattle.model.specs.Shorter.{Stretch, ofSecond, shorterVerdict, fewer, shorter}
-use Rattle.model.proofs.Laws.Shorter.{second-fine, symbols-refused, first-refused, second-verdict, shorter-refused, shorter-fine, Within, shorter-within}
+use Rattle.model.proofs.Laws.Shorter.{second-endless, second-faulty, second-fine, symbols-refused, first-refused, second-verdict, shorter-refused, shorter-fine, Fits, shorter-fits}
 use Rattle.answers.specs.declared.DocumentFault.{DocumentFault}
 use Rattle.answers.specs.declared.DocumentFault.the-variants as document
 use Rattle.reading.specs.Answers as reading
@@ -15,7 +15,7 @@ use Rattle.comparing.specs.declared.ComparingFault.{ComparingFault}
 use Rattle.comparing.specs.declared.ComparingFault.the-variants as fault
 use Rattle.comparing.specs.declared.Comparison.{Comparison}
 use Rattle.comparing.specs.declared.Comparison.the-variants as comparison
-use Rattle.comparing.specs.Answers.{faultVerdict, verdictOf, stretchOf}
+use Rattle.comparing.specs.Answers.{comparingVerdict, verdictOf, stretchOf}
 use Rattle.comparing.specs.Stretches.{Slice, partOf, shorterPart}
 
 -- a comparison that is known to be s: its stretch has no more numbers than either buffer, and is handed back in its place
@@ -23,8 +23,8 @@ module _ (S : ℕ) (first second : Slice) {r : Comparison} (s : Comparison) (kno
   same-stretch : stretchOf s ≡ shorter S (first .now) (second .now)
   same-stretch = sym (ap stretchOf known) ∙ told
 
-  pub there : Within S (first .now) (second .now) (stretchOf s)
-  there = rw same-stretch (shorter-within S (first .now) (second .now))
+  pub there : Fits S (first .now) (second .now) (stretchOf s)
+  there = rw same-stretch (shorter-fits S (first .now) (second .now))
 
   pub handed : partOf (stretchOf s) first second ≡ shorterPart S first second
   handed = ap (λ (t : Stretch). partOf t first second) same-stretch
@@ -34,7 +34,7 @@ module _ (S : ℕ) (xs ys : List ℕ) where
   abbrev pub Says : Comparison → Type 0
   Says r = (verdictOf r ≡ shorterVerdict S xs ys) × (stretchOf r ≡ shorter S xs ys)
 
-  refused-says : (f : ComparingFault) (number place : ℕ) → faultVerdict f ≡ refused number place → shorterVerdict S xs ys ≡ refused number place
+  refused-says : (f : ComparingFault) (number place : ℕ) → comparingVerdict f ≡ refused number place → shorterVerdict S xs ys ≡ refused number place
       → Says (comparison.Refused f)
   refused-says f number place told e = (told ∙ sym e, sym (shorter-refused S xs ys number place e))
 
@@ -48,9 +48,8 @@ module _ (S : ℕ) (xs ys : List ℕ) where
 
     module _ (good : leadingVerdict S xs ≡ fine) where
       pub second-wrong : (f : DocumentFault) → reading.faultVerdict f ≡ leadingVerdict S ys → Says (comparison.Refused (fault.Second f))
-      unfolding ofSecond
-      second-wrong (document.Length n) e = refused-says (fault.Second (document.Length n)) 54 n refl (second-verdict S xs ys some good ∙ ap ofSecond (sym e))
-      second-wrong (document.Number n) e = refused-says (fault.Second (document.Number n)) 55 n refl (second-verdict S xs ys some good ∙ ap ofSecond (sym e))
+      second-wrong (document.Length n) e = refused-says (fault.Second (document.Length n)) 54 n refl (second-verdict S xs ys some good ∙ ap ofSecond (sym e) ∙ second-endless n)
+      second-wrong (document.Number n) e = refused-says (fault.Second (document.Number n)) 55 n refl (second-verdict S xs ys some good ∙ ap ofSecond (sym e) ∙ second-faulty n)
 
       pub compared : leadingVerdict S ys ≡ fine
           → (r : Comparison) (n m : ℕ) → verdictOf r ≡ fine → stretchOf r ≡ fewer n m → n ≡ numbersTaken S xs → m ≡ numbersTaken S ys → Says r

@@ -17,15 +17,15 @@ documentVerdict endless faulty (document.Length numbers) = refused endless numbe
 documentVerdict endless faulty (document.Number place) = refused faulty place
 
 -- "1 a symbol count out of range (place 0), 11 and 12 as in W-205 for the first buffer, then the same for the second as 54 and 55"
-abbrev pub faultVerdict : ComparingFault → Verdict
-faultVerdict fault.Symbols = refused 1 0
-faultVerdict (fault.First f) = documentVerdict 11 12 f
-faultVerdict (fault.Second f) = documentVerdict 54 55 f
+abbrev pub comparingVerdict : ComparingFault → Verdict
+comparingVerdict fault.Symbols = refused 1 0
+comparingVerdict (fault.First f) = documentVerdict 11 12 f
+comparingVerdict (fault.Second f) = documentVerdict 54 55 f
 
 abbrev pub verdictOf : Comparison → Verdict
 verdictOf (comparison.First count) = fine
 verdictOf (comparison.Second count) = fine
-verdictOf (comparison.Refused f) = faultVerdict f
+verdictOf (comparison.Refused f) = comparingVerdict f
 
 abbrev pub stretchOf : Comparison → Stretch
 stretchOf (comparison.First count) = inFirst count
@@ -35,4 +35,4 @@ stretchOf (comparison.Refused f) = emptyStretch
 -- "its number and place, or none"
 abbrev pub refusalVerdict : Refusal → Verdict
 refusalVerdict refusal.Nothing = fine
-refusalVerdict (refusal.Because f) = faultVerdict f
+refusalVerdict (refusal.Because f) = comparingVerdict f

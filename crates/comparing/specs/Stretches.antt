@@ -13,8 +13,8 @@ pub record Part : Type 0 where
   pub start : ℕ × ℕ
   pub numbers : List ℕ
 
-abbrev pub lent : Slice → Part
-lent r = record { start = r .ptr; numbers = r .now }
+abbrev pub asPart : Slice → Part
+asPart r = record { start = r .ptr; numbers = r .now }
 
 -- a stretch of two buffers that are lent: it starts where its buffer does
 abbrev pub partOf : Stretch → (first second : Slice) → Part

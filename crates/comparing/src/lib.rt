@@ -8,7 +8,7 @@ ghost use Rattle.model.specs.Admission.{outside};
 ghost use Rattle.model.specs.Shorter.{shorterVerdict};
 ghost use Rattle.model.specs.Shorter as model;
 ghost use Rattle.comparing.specs.Answers.{stretchOf, verdictOf, refusalVerdict};
-ghost use Rattle.comparing.specs.Stretches.{lent, shorterPart};
+ghost use Rattle.comparing.specs.Stretches.{asPart, shorterPart};
 use admission_tables::sizes::is_outside;
 use answers::DocumentFault;
 use reading::Reading;
@@ -26,7 +26,7 @@ pub enum ComparingFault {
 }
 
 // What comparing says.
-pub enum Comparison {
+enum Comparison {
     // The first buffer's tree comes back: how many numbers it has.
     First(usize),
     // The second buffer's tree comes back: how many numbers it has.
@@ -82,7 +82,7 @@ fn compare(symbols: usize, first: &[u16], second: &[u16]) -> Comparison
 // The shorter of the two trees that the buffers begin with, as the very stretch of its buffer; on a tie, the first buffer's. Where
 // something is refused, the empty stretch at the first buffer's start.
 pub fn shorter<'a>(symbols: usize, first: &'a [u16], second: &'a [u16]) -> &'a [u16]
-    ensures { λ r. ⌜ lent r ≡ shorterPart symbols (first .entry) (second .entry) ⌝ }
+    ensures { λ r. ⌜ asPart r ≡ shorterPart symbols (first .entry) (second .entry) ⌝ }
 {
     match compare(symbols, first, second) {
         Comparison::First(count) => &first[..count],

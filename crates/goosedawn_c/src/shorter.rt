@@ -1,8 +1,8 @@
 // The shorter of two examples for C and Rust: which stretch of the two buffers it is, and why there is none.
 ghost use mathlib.Core.Path.{_≡_};
 ghost use Rattle.model.specs.Shorter.{shorterVerdict};
-ghost use Rattle.comparing.specs.Answers.{documentVerdict, faultVerdict, refusalVerdict};
-ghost use Rattle.comparing.specs.Stretches.{lent, shorterPart};
+ghost use Rattle.comparing.specs.Answers.{documentVerdict, comparingVerdict, refusalVerdict};
+ghost use Rattle.comparing.specs.Stretches.{asPart, shorterPart};
 ghost use Rattle.goosedawn_c.specs.Refusals.{told, toldOf};
 use answers::DocumentFault;
 use comparing::ComparingFault;
@@ -34,9 +34,9 @@ fn tell_document(endless: usize, faulty: usize, fault: DocumentFault) -> Told
     }
 }
 
-// Why two buffers are not compared: 1, the numbers of the first buffer, or those of the second.
+// Why two buffers are not compared: 1; 11 or 12 of the first; 54 or 55 of the second.
 fn tell_fault(fault: ComparingFault) -> Told
-    ensures { λ r. ⌜ r ≡ toldOf (faultVerdict fault) ⌝ }
+    ensures { λ r. ⌜ r ≡ toldOf (comparingVerdict fault) ⌝ }
 {
     match fault {
         ComparingFault::Symbols => tell(1, 0),
@@ -55,7 +55,8 @@ fn tell_refusal(refusal: Refusal) -> Told
     }
 }
 
-// The shorter of the trees that the two buffers begin with: where it starts in its buffer and how many numbers it has go into `into`.
+// The shorter of the trees that the two buffers begin with: its stretch, a pointer into its buffer and a count, is written to `into`.
+// (A function that C may call cannot return a reference.)
 #[no_mangle]
 pub extern "C" fn goosedawn_shorter_into<'a, 'b>(
     symbols: usize,
@@ -63,7 +64,7 @@ pub extern "C" fn goosedawn_shorter_into<'a, 'b>(
     second: &'a [u16],
     into: &'b mut &'a [u16],
 )
-    ensures { λ _. ⌜ lent (now (into .exit)) ≡ shorterPart symbols (first .entry) (second .entry) ⌝ }
+    ensures { λ _. ⌜ asPart (now (into .exit)) ≡ shorterPart symbols (first .entry) (second .entry) ⌝ }
 {
     let part = shorter(symbols, first, second);
     *into = part;

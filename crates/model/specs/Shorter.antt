@@ -43,9 +43,12 @@ abbrev pub numbersOf : Stretch → (xs ys : List ℕ) → List ℕ
 numbersOf s xs ys = take (s .count) (pick (s .buffer) xs ys)
 
 -- "the same for the second as 54 and 55": 54 for 11, 55 for 12
+abbrev pub secondNumber : ℕ → ℕ
+secondNumber number = choose (eqb number 11) 54 55
+
 unfoldable pub ofSecond : Verdict → Verdict
 ofSecond fine = fine
-ofSecond (refused number place) = refused (choose (eqb number 11) 54 55) place
+ofSecond (refused number place) = refused (secondNumber number) place
 
 -- "1 a symbol count out of range (place 0), 11 and 12 as in W-205 for the first buffer, then the same for the second as 54 and 55"
 unfoldable pub shorterVerdict : ℕ → (xs ys : List ℕ) → Verdict

@@ -1,7 +1,7 @@
 // Reading documents: the tree that a stretch of numbers begins with, what is refused of it, how many numbers it takes, and where the
 // tree of each place ends.
 //
-// Judging and running start with `read`, and go on with the numbers that the document takes. They find the children of place i by
+// Judging, running and comparing start with `read`; the first two go on with the numbers that the document takes. They find the children of place i by
 // what `fill_ends` fills: the left child starts at place i + 1, the right child where the left one ends.
 ghost use mathlib.Core.Path.{_≡_};
 ghost use Prim.Native.Nat.{_+_, _-_, _^_, _≤_, _<_, min};

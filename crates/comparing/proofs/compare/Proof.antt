@@ -27,7 +27,10 @@ in-range : (c : tie.Else1) → outside 1 16 (c .before .before .before .before .
 in-range c = sym (c .before .symbols-wrong .ensures) ∙ c .if1 .left
 
 returns-2 : tie.Need-returns-2
-returns-2 c = first-wrong _ (c .before .before .before .before .before .before .before .before .args .first .now) (c .before .before .before .before .before .before .before .before .args .second .now) (in-range (c .before .before .before .before)) (c .before .of-first .given .0 .0) (sym (ap readingVerdict (c .before .of-first .given .1)) ∙ c .before .before .before .read .ensures .0)
+returns-2 c =
+    let args = c .before .before .before .before .before .before .before .before .args in
+    first-wrong _ (args .first .now) (args .second .now) (in-range (c .before .before .before .before)) (c .before .of-first .given .0 .0)
+    (sym (ap readingVerdict (c .before .of-first .given .1)) ∙ c .before .before .before .read .ensures .0)
 
 enum-told : tie.Need-enum-told
 enum-told c = search needs
@@ -44,7 +47,8 @@ first-good c = sym (c .before .before .read .ensures .0) ∙ ap readingVerdict (
 
 returns-3 : tie.Need-returns-3
 returns-3 c =
-    second-wrong _ (c .before .before .before .before .before .before .before .before .before .before .before .args .first .now) (c .before .before .before .before .before .before .before .before .before .before .before .args .second .now) (in-range (c .before .before .before .before .before .before .before)) (first-good (c .before .before .before .before)) (c .before .of-second .given .0 .0)
+    let args = c .before .before .before .before .before .before .before .before .before .before .before .args in
+    second-wrong _ (args .first .now) (args .second .now) (in-range (c .before .before .before .before .before .before .before)) (first-good (c .before .before .before .before)) (c .before .of-second .given .0 .0)
     (sym (ap readingVerdict (c .before .of-second .given .1)) ∙ c .before .before .before .read2 .ensures .0)
 
 enum-told-2 : tie.Need-enum-told-2
@@ -61,8 +65,14 @@ fewer-requires c κs = search needs
 
 returns-4 : tie.Need-returns-4
 returns-4 c =
-    compared _ (c .before .before .before .before .before .before .before .before .before .before .before .before .before .args .first .now) (c .before .before .before .before .before .before .before .before .before .before .before .before .before .args .second .now) (in-range (c .before .before .before .before .before .before .before .before .before)) (first-good (c .before .before .before .before .before .before)) (sym (c .before .before .before .before .before .read2 .ensures .0) ∙ ap readingVerdict (c .before .before .before .enum-told2 .given .1)) (c .fewer .result) _ _
-    (c .fewer .ensures .1) (c .fewer .ensures .0)
+    let args = c .before .before .before .before .before .before .before .before .before .before .before .before .before .args in
+    compared _ (args .first .now) (args .second .now) (in-range (c .before .before .before .before .before .before .before .before .before)) (first-good (c .before .before .before .before .before .before))
+    (sym (c .before .before .before .before .before .read2 .ensures .0) ∙ ap readingVerdict (c .before .before .before .enum-told2 .given .1))
+    (c .fewer .result)
+    _
+    _
+    (c .fewer .ensures .1)
+    (c .fewer .ensures .0)
     (c .before .before .taken-of .ensures ∙ c .before .before .before .before .before .before .before .before .read .ensures .1)
     (c .before .taken-of2 .ensures ∙ c .before .before .before .before .before .read2 .ensures .1)
 

@@ -14,13 +14,19 @@ enum-known-count : tie.Need-enum-known-count
 enum-known-count c = search needs
 
 slice-aggregate-result : tie.Need-slice-aggregate-result
-slice-aggregate-result c = let fits = there _ (c .before .before .before .before .before .before .before .args .first) (c .before .before .before .before .before .before .before .args .second) _ (c .before .before .count .given .1) (c .before .before .before .before .compare .ensures .1) in sym (length-take-le _ _ (omega (arith, fits)))
+slice-aggregate-result c =
+    let args = c .before .before .before .before .before .before .before .args in
+    let fits = there _ (args .first) (args .second) _ (c .before .before .count .given .1) (c .before .before .before .before .compare .ensures .1) in
+    sym (length-take-le _ _ (omega (arith, fits)))
 
 enum-known-count-2 : tie.Need-enum-known-count-2
 enum-known-count-2 c = search needs
 
 slice-aggregate-result-2 : tie.Need-slice-aggregate-result-2
-slice-aggregate-result-2 c = let fits = there _ (c .before .before .before .before .before .before .before .args .first) (c .before .before .before .before .before .before .before .args .second) _ (c .before .before .count2 .given .1) (c .before .before .before .before .compare .ensures .1) in sym (length-take-le _ _ (omega (arith, fits)))
+slice-aggregate-result-2 c =
+    let args = c .before .before .before .before .before .before .before .args in
+    let fits = there _ (args .first) (args .second) _ (c .before .before .count2 .given .1) (c .before .before .before .before .compare .ensures .1) in
+    sym (length-take-le _ _ (omega (arith, fits)))
 
 enum-told : tie.Need-enum-told
 enum-told c = search needs
@@ -29,13 +35,13 @@ slice-aggregate-result-3 : tie.Need-slice-aggregate-result-3
 slice-aggregate-result-3 c = search needs
 
 returns : tie.Need-returns
-returns c = handed _ (c .before .before .before .before .before .before .before .args .first) (c .before .before .before .before .before .before .before .args .second) _ (c .before .before .count .given .1) (c .before .before .before .before .compare .ensures .1)
+returns c = let args = c .before .before .before .before .before .before .before .args in handed _ (args .first) (args .second) _ (c .before .before .count .given .1) (c .before .before .before .before .compare .ensures .1)
 
 returns-2 : tie.Need-returns-2
-returns-2 c = handed _ (c .before .before .before .before .before .before .before .args .first) (c .before .before .before .before .before .before .before .args .second) _ (c .before .before .count2 .given .1) (c .before .before .before .before .compare .ensures .1)
+returns-2 c = let args = c .before .before .before .before .before .before .before .args in handed _ (args .first) (args .second) _ (c .before .before .count2 .given .1) (c .before .before .before .before .compare .ensures .1)
 
 returns-3 : tie.Need-returns-3
-returns-3 c = handed _ (c .before .before .before .before .before .before .args .first) (c .before .before .before .before .before .before .args .second) _ (c .before .enum-told .given .1) (c .before .before .before .compare .ensures .1)
+returns-3 c = let args = c .before .before .before .before .before .before .args in handed _ (args .first) (args .second) _ (c .before .enum-told .given .1) (c .before .before .before .compare .ensures .1)
 
 pub shorter-spec : {M : Type 1} → statement M
 shorter-spec =

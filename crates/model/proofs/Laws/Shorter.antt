@@ -15,6 +15,15 @@ use Rattle.model.specs.Shorter.{Stretch, inFirst, inSecond, ofSecond, sh
 use Rattle.model.proofs.Laws.Answers.{refused-not-fine, then-fine, then-passed, then-refused, refuse-if-fine, refuse-if-passed, refuse-if-refused}
 use Rattle.model.proofs.Laws.Documents.{leading-fine}
 
+-- what is refused of the second buffer
+pub second-endless : (place : ℕ) → ofSecond (refused 11 place) ≡ refused 54 place
+unfolding ofSecond
+second-endless place = refl
+
+pub second-faulty : (place : ℕ) → ofSecond (refused 12 place) ≡ refused 55 place
+unfolding ofSecond
+second-faulty place = refl
+
 -- nothing is refused of the second buffer exactly if nothing is wrong with it
 pub second-fine : (v : Verdict) → (ofSecond v ≡ fine) ↔ (v ≡ fine)
 unfolding ofSecond
@@ -22,11 +31,11 @@ second-fine fine = (λ e. refl, λ e. refl)
 second-fine (refused number place) = (λ e. absurd (refused-not-fine _ place e), λ e. absurd (refused-not-fine number place e))
 
 -- which tree has fewer numbers; on a tie, the first buffer's
-pub fewer-first : (n m : ℕ) → n ≤ m → fewer n m ≡ inFirst n
+fewer-first : (n m : ℕ) → n ≤ m → fewer n m ≡ inFirst n
 unfolding fewer
 fewer-first n m few = rw le-ltb
 
-pub fewer-second : (n m : ℕ) → m < n → fewer n m ≡ inSecond m
+fewer-second : (n m : ℕ) → m < n → fewer n m ≡ inSecond m
 unfolding fewer
 fewer-second n m few = rw lt-ltb
 
@@ -75,19 +84,19 @@ module _ (S : ℕ) (xs ys : List ℕ) where
   shorter-fine e = rw e
 
   -- it has no more numbers than either buffer
-  pub record Within (s : Stretch) : Type 0 where
-    pub ofFirst : s .count ≤ length xs
-    pub ofSecond : s .count ≤ length ys
+  pub record Fits (s : Stretch) : Type 0 where
+    pub inFirstBuffer : s .count ≤ length xs
+    pub inSecondBuffer : s .count ≤ length ys
 
-  pub shorter-within : Within (shorter S xs ys)
-  shorter-within = go (shorterVerdict S xs ys) refl
+  pub shorter-fits : Fits (shorter S xs ys)
+  shorter-fits = go (shorterVerdict S xs ys) refl
     where
-      go : (v : Verdict) → shorterVerdict S xs ys ≡ v → Within (shorter S xs ys)
-      go (refused number place) e = subst Within (sym (shorter-refused number place e)) (record { ofFirst = zero-le; ofSecond = zero-le })
+      go : (v : Verdict) → shorterVerdict S xs ys ≡ v → Fits (shorter S xs ys)
+      go (refused number place) e = subst Fits (sym (shorter-refused number place e)) (record { inFirstBuffer = zero-le; inSecondBuffer = zero-le })
       go fine e =
           let c = nothing-refused e in
           let one = leading-fine S xs (c .firstFine) .within in
           let two = leading-fine S ys (c .secondFine) .within in
-          subst Within (sym (shorter-fine e))
-          (fewer-has Within _ _ (λ few. record { ofFirst = one; ofSecond = omega (arith, two, few) })
-          (λ few. record { ofFirst = omega (arith, one, few); ofSecond = two }))
+          subst Fits (sym (shorter-fine e))
+          (fewer-has Fits _ _ (λ few. record { inFirstBuffer = one; inSecondBuffer = omega (arith, two, few) })
+          (λ few. record { inFirstBuffer = omega (arith, one, few); inSecondBuffer = two }))

@@ -13,55 +13,52 @@ use Rattle.model.specs.Answers.{Verdict, fine, refused}
 use Rattle.model.specs.Admission.{outside}
 use Rattle.model.specs.Documents.{numbersTaken, leadingTree, leadingVerdict}
 use Rattle.model.specs.Refusals.{Reason, NoReason, FirstReason, RefusesFor, withNumber, leadingReasons, HasDocument}
-use Rattle.model.specs.Shorter.{ofSecond, shorterVerdict, shorter, SymbolsInRange, shorterReasons, ShorterTree, Compares}
+use Rattle.model.specs.Shorter.{secondNumber, ofSecond, shorterVerdict, shorter, SymbolsInRange, shorterReasons, ShorterTree, Compares}
 use Rattle.model.proofs.Laws.Answers.{refused-not-fine, refuse-if-fine, Numbers, then-numbers, refused-numbers, refuse-if-numbers}
 use Rattle.model.proofs.Laws.Tests.{inside, not-outside}
 use Rattle.model.proofs.Laws.Documents.{some-number, leading-fine}
-use Rattle.model.proofs.Laws.Shorter.{second-fine, fewer-has, second-verdict, nothing-refused, shorter-refused, shorter-fine}
+use Rattle.model.proofs.Laws.Shorter.{second-endless, second-faulty, second-fine, fewer-has, second-verdict, nothing-refused, shorter-refused, shorter-fine}
 use Rattle.model.proofs.Meaning.Verdicts.{then-for, only-for, leading-refusals, document-numbers, fine-document, reads-leading}
 
 -- "the same for the second as 54 and 55": what is refused as 11 and 12 is refused as 54 and 55, for the same reasons
 module _ (A B : ℕ → Type 0) where
-  abbrev told : List Reason
-  told = withNumber 11 A ∷ withNumber 12 B ∷ []
+  abbrev as-first : List Reason
+  as-first = withNumber 11 A ∷ withNumber 12 B ∷ []
 
-  abbrev told-of-second : List Reason
-  told-of-second = withNumber 54 A ∷ withNumber 55 B ∷ []
+  abbrev as-second : List Reason
+  as-second = withNumber 54 A ∷ withNumber 55 B ∷ []
 
-  none-told : NoReason told ↔ NoReason told-of-second
+  none-told : NoReason as-first ↔ NoReason as-second
   none-told = (
     λ (a, (b, _)). (λ number place w. a 11 place (refl, w .1), (λ number place w. b 12 place (refl, w .1), tt)),
     λ (a, (b, _)). (λ number place w. a 54 place (refl, w .1), (λ number place w. b 55 place (refl, w .1), tt)),
   )
 
-  abbrev renumbered : ℕ → ℕ
-  renumbered number = choose (eqb number 11) 54 55
-
-  first-renumbered : (number place : ℕ) → FirstReason told number place → FirstReason told-of-second (renumbered number) place
-  first-renumbered number place (inl (same, wrong)) = inl (ap renumbered same, wrong)
-  first-renumbered number place (inr (right, inl (same, wrong))) = inr (λ n p w. right 11 p (refl, w .1), inl (ap renumbered same, wrong))
+  first-renumbered : (number place : ℕ) → FirstReason as-first number place → FirstReason as-second (secondNumber number) place
+  first-renumbered number place (inl (same, wrong)) = inl (ap secondNumber same, wrong)
+  first-renumbered number place (inr (right, inl (same, wrong))) = inr (λ n p w. right 11 p (refl, w .1), inl (ap secondNumber same, wrong))
   first-renumbered number place (inr (right, inr (_, never))) = absurd never
 
-  module _ (v : Verdict) (for : RefusesFor told v) where
-    first-told : (number place : ℕ) → FirstReason told-of-second number place → ofSecond v ≡ refused number place
-    unfolding ofSecond
+  module _ (v : Verdict) (for : RefusesFor as-first v) where
+    first-told : (number place : ℕ) → FirstReason as-second number place → ofSecond v ≡ refused number place
     first-told number place (inl (same, wrong)) =
-        ap ofSecond (for .refuses 11 place .1 (inl (refl, wrong))) ∙ ap (λ (n : ℕ). refused n place) (sym same)
+        ap ofSecond (for .refuses 11 place .1 (inl (refl, wrong))) ∙ second-endless place ∙ ap (λ (n : ℕ). refused n place) (sym same)
     first-told number place (inr (right, inl (same, wrong))) =
         ap ofSecond (for .refuses 12 place .1 (inr (λ n p w. right 54 p (refl, w .1), inl (refl, wrong))))
+        ∙ second-faulty place
         ∙ ap (λ (n : ℕ). refused n place) (sym same)
     first-told number place (inr (right, inr (_, never))) = absurd never
 
-    told-first : (w : Verdict) → v ≡ w → (number place : ℕ) → ofSecond w ≡ refused number place → FirstReason told-of-second number place
+    told-first : (w : Verdict) → v ≡ w → (number place : ℕ) → ofSecond w ≡ refused number place → FirstReason as-second number place
     unfolding ofSecond
     told-first fine e number place f = absurd (refused-not-fine number place (sym f))
     told-first (refused m q) e number place f =
-        let same : renumbered m ≡ number = cc in
+        let same : secondNumber m ≡ number = cc in
         let there : q ≡ place = cc in
-        subst (λ (n : ℕ). FirstReason told-of-second n place) same
-        (subst (FirstReason told-of-second (renumbered m)) there (first-renumbered m q (for .refuses m q .0 e)))
+        subst (λ (n : ℕ). FirstReason as-second n place) same
+        (subst (FirstReason as-second (secondNumber m)) there (first-renumbered m q (for .refuses m q .0 e)))
 
-    second-for : RefusesFor told-of-second (ofSecond v)
+    second-for : RefusesFor as-second (ofSecond v)
     second-for =
         record {
           refuses = λ number place. (told-first v refl number place, first-told number place);

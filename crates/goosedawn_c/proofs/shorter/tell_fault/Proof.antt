@@ -1,4 +1,4 @@
--- Each case has its numbers: 1, those of the first buffer, those of the second.
+-- Each case has its numbers: 1; 11 and 12 of the first buffer; 54 and 55 of the second.
 use borrow.Author.Needs.{needs}
 use Rattle.goosedawn_c.proofs.shorter.tell_fault.Statement.{statement}
 use Rattle.goosedawn_c.proofs.shorter.tell_fault.Tie as tie
