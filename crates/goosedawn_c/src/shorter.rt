@@ -1,7 +1,8 @@
 // The shorter of two examples for C and Rust: which stretch of the two buffers it is, and why there is none.
 ghost use mathlib.Core.Path.{_≡_};
 ghost use Rattle.model.specs.Shorter.{shorterVerdict};
-ghost use Rattle.comparing.specs.Answers.{documentVerdict, comparingVerdict, refusalVerdict};
+ghost use Rattle.reading.specs.Answers.{documentVerdict};
+ghost use Rattle.comparing.specs.Answers.{comparingVerdict, refusalVerdict};
 ghost use Rattle.comparing.specs.Stretches.{asPart, shorterPart};
 ghost use Rattle.goosedawn_c.specs.Refusals.{told, toldOf};
 use answers::DocumentFault;

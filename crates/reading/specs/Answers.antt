@@ -15,10 +15,14 @@ abbrev pub leadingOf : Leading → model.Leading
 leadingOf (leading.Ends at) = model.ends at
 leadingOf (leading.Faulty at) = model.faulty at
 
+-- what is wrong with a document, by the number of a tree without end and the number of a fault
+abbrev pub documentVerdict : (endless faulty : ℕ) → DocumentFault → Verdict
+documentVerdict endless faulty (fault.Length numbers) = refused endless numbers
+documentVerdict endless faulty (fault.Number place) = refused faulty place
+
 -- refusals 11 and 12
 abbrev pub faultVerdict : DocumentFault → Verdict
-faultVerdict (fault.Length numbers) = refused 11 numbers
-faultVerdict (fault.Number place) = refused 12 place
+faultVerdict f = documentVerdict 11 12 f
 
 abbrev pub readingVerdict : Reading → Verdict
 readingVerdict (reading.Takes taken) = fine
