@@ -39,7 +39,7 @@ fn tuples_wrong(width: usize, most: usize, n: usize) -> bool
 }
 
 // How long an output table is.
-fn table_length(symbols: usize, output_states: usize) -> usize
+pub fn table_length(symbols: usize, output_states: usize) -> usize
     requires { ⌜ (1 ≤ symbols) × (symbols ≤ 16) × («output_states» ≤ 4) ⌝ }
     ensures { λ r. ⌜ r ≡ tableLength symbols «output_states» ⌝ }
 {

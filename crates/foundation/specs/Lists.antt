@@ -1,14 +1,15 @@
--- Lists: those that are filled with zeros to a length, parts that end with the list, equality as a test, and tables that are filled
--- entry by entry.
+-- Lists: those that are filled with zeros to a length, parts that end with the list, equality as a test, tables that are filled entry by
+-- entry, and lists of a function's values.
 use mathlib.Core.Path.{_≡_, refl, ap, ap₂, subst, sym, _∙_}
 use mathlib.Core.List.{List, [], _∷_, _++_}
 use mathlib.Core.Bool.{Bool, true, false}
-use Prim.Native.Nat.{ℕ, _+_, _-_, _≤_, _<_, min}
+use Prim.Native.Nat.{ℕ, zero, suc, _+_, _-_, _≤_, _<_, min}
+use native.Mathlib.Nat.{not-suc-le-zero, le-of-suc-le-suc}
 use native.Mathlib.Omega.{arith}
-use native.Mathlib.Decide.{ℕ-discrete}
+use native.Mathlib.Decide.{ℕ-discrete, decLt}
 use lib.Dec.{T, leb}
-use lib.ListN.{length, getD, take, set, replicate, length-append, length-replicate}
-use lib.Seq.{take-all, getD-set-same, getD-set-other}
+use lib.ListN.{length, getD, take, drop, set, replicate, length-append, length-drop, length-replicate, List·getD-append}
+use lib.Seq.{take-all, getD-set-same, getD-set-other, getD-append-add, getD-drop, ext-getD}
 use borrow.Author.Tests.{leb-true, leb-false}
 use Rattle.foundation.specs.Tests.{_and_, same, and-left, and-right, and-both, same-eq, eq-same}
 
@@ -68,3 +69,45 @@ pub filled-more : {A : Type 0} (f : ℕ → A) (d : A) (l : List A) (k : ℕ) (v
     → v ≡ f k
     → (j : ℕ) → j < k + 1 → getD (set l k v) j d ≡ f j
 filled-more f d l k v h before here j lt = set-holds f d l k v h here j (λ ne. before j (omega arith))
+
+-- the list of f 0 to f (n - 1)
+unfoldable pub tabulated : ℕ → (ℕ → ℕ) → List ℕ
+tabulated zero f = []
+tabulated (suc n) f = f 0 ∷ tabulated n (λ k. f (suc k))
+
+pub length-tabulated : (n : ℕ) (f : ℕ → ℕ) → length (tabulated n f) ≡ n
+unfolding tabulated
+length-tabulated zero f = refl
+length-tabulated (suc n) f = ap suc (length-tabulated n (λ k. f (suc k)))
+
+pub tabulated-at : (n : ℕ) (f : ℕ → ℕ) (k : ℕ) → k < n → getD (tabulated n f) k 0 ≡ f k
+unfolding tabulated
+tabulated-at zero f k h = absurd (not-suc-le-zero h)
+tabulated-at (suc n) f zero h = refl
+tabulated-at (suc n) f (suc k) h = tabulated-at n (λ j. f (suc j)) k (le-of-suc-le-suc h)
+
+pub tabulated-cong : (n : ℕ) (f g : ℕ → ℕ) → ((k : ℕ) → f k ≡ g k) → tabulated n f ≡ tabulated n g
+unfolding tabulated
+tabulated-cong zero f g same = refl
+tabulated-cong (suc n) f g same = ap₂ _∷_ (same 0) (tabulated-cong n (λ k. f (suc k)) (λ k. g (suc k)) (λ k. same (suc k)))
+
+-- a buffer of which the first n entries were set to f 0 to f (n - 1), the rest kept
+pub tabulated-filled : (n : ℕ) (f : ℕ → ℕ) (l buffer : List ℕ) → length l ≡ length buffer → n ≤ length l
+    → ((j : ℕ) → j < n → getD l j 0 ≡ f j)
+    → ((j : ℕ) → n ≤ j → getD l j 0 ≡ getD buffer j 0)
+    → l ≡ tabulated n f ++ drop n buffer
+tabulated-filled n f l buffer long h set kept = ext-getD 0 l (tabulated n f ++ drop n buffer) whole (λ i k. go i k (decLt i n))
+  where
+    whole : length l ≡ length (tabulated n f ++ drop n buffer)
+    whole = sym (length-append (tabulated n f) (drop n buffer) ∙ rw (length-tabulated n f, length-drop n buffer) (omega arith))
+
+    go : (i : ℕ) → i < length l → Dec (i < n) → getD l i 0 ≡ getD (tabulated n f ++ drop n buffer) i 0
+    go i k (yes b) = set i b ∙ sym (List·getD-append (tabulated n f) (drop n buffer) 0 i (omega (arith, length-tabulated n f)) ∙ tabulated-at n f i b)
+    go i k (no nb) =
+        let at : length (tabulated n f) + (i - n) ≡ i = omega (arith, length-tabulated n f) in
+        let back : n + (i - n) ≡ i = omega arith in
+        kept i (omega arith)
+        ∙ sym (ap (λ (j : ℕ). getD (tabulated n f ++ drop n buffer) j 0) (sym at)
+        ∙ getD-append-add (tabulated n f) (drop n buffer) (i - n) 0
+        ∙ getD-drop n buffer (i - n) 0
+        ∙ ap (λ (j : ℕ). getD buffer j 0) back)

@@ -10,3 +10,4 @@ pub mod Facts
 pub mod Documents
 pub mod Rules
 pub mod Shorter
+pub mod Merging

@@ -1,5 +1,6 @@
 -- What the answers mean: outputs are those of the published meaning, facts are the states of outputs, a kind says which trees break a
--- contract, a check's answers speak of all trees, refusals say what is wrong and where, and of two examples the shorter comes back.
+-- contract, a check's answers speak of all trees, refusals say what is wrong and where, of two examples the shorter comes back, and a
+-- merged type allows what both types do.
 pub mod Outputs
 pub mod Published
 pub mod Facts
@@ -16,3 +17,6 @@ pub mod Verdicts
 pub mod Shorter
 pub mod Refusals
 pub mod Judgements
+pub mod Merging
+pub mod MergingAnswers
+pub mod MergedChecks

@@ -4,7 +4,7 @@ use mathlib.Core.List.{[]}
 use Prim.Native.Nat.{ℕ, _*_, _-_, _<_}
 use lib.ListN.{length, take, drop, replicate}
 use Rattle.model.specs.Trees.{Tree, empty, node, Over}
-use Rattle.model.specs.Tables.{Contract, InputType, inputRow, inputRowCount, markAt}
+use Rattle.model.specs.Tables.{Contract, InputType, OutputType, inputRow, inputRowCount, markAt}
 use Rattle.model.specs.Outputs.{Output}
 use Rattle.model.specs.Facts.{stateOf}
 use Rattle.model.specs.Answers.{fine}
@@ -29,9 +29,12 @@ pub record Takes (C : Contract) (t : Tree) : Type 0 where
   pub accepted : markAt (C .input .marks) state ≡ 1
   pub reached : Reaches (C .input) t state
 
--- "It allows a tree if the state that the output table gives it, from the leaves up, is accepted."
+-- "It allows a tree if the state that the output table gives it, from the leaves up, is accepted.": an output type, and a contract
+abbrev pub TypeAllows : OutputType → Tree → Type 0
+TypeAllows Y u = markAt (Y .marks) (stateOf Y u) ≡ 1
+
 abbrev pub Allows : Contract → Tree → Type 0
-Allows C u = markAt (C .output .marks) (stateOf (C .output) u) ≡ 1
+Allows C u = TypeAllows (C .output) u
 
 -- "A tree breaks it if it is taken and procedure 0 has an output on it that is not allowed."
 pub record Breaks (C : Contract) (t : Tree) : Type 0 where

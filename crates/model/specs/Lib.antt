@@ -1,6 +1,6 @@
 -- Document 01, sentence by sentence. Each definition quotes the words that it stands for. Published has source document 000's
--- meaning; Refusals, Meaning and Demand have the statements that proofs/ proves. Shorter has change request W-207, both its
--- definition and its statements.
+-- meaning; Refusals, Meaning and Demand have the statements that proofs/ proves. Shorter has change request W-207 and Merging W-206,
+-- both definitions and statements.
 pub mod Trees
 pub mod Documents
 pub mod Rows
@@ -22,3 +22,4 @@ pub mod Shorter
 pub mod Claims
 pub mod Meaning
 pub mod Demand
+pub mod Merging

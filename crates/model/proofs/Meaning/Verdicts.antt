@@ -132,7 +132,7 @@ only-for test Holds number place means =
     ))
 
 -- a search: "lowest place"
-lowest-for : (number : ℕ) (bad : ℕ → Bool) (n : ℕ) → RefusesFor (lowest number bad n ∷ []) (refuseFirst number bad n)
+pub lowest-for : (number : ℕ) (bad : ℕ → Bool) (n : ℕ) → RefusesFor (lowest number bad n ∷ []) (refuseFirst number bad n)
 unfolding refuseFirst
 lowest-for number bad n =
     one-for _ number _ (refuse-if-only (ltb (first bad n) n) number (first bad n))
@@ -165,10 +165,10 @@ each-for verdict reasons n for =
 
 -- The operations
 
-less : (m n : ℕ) → (ltb m n ≡ true) ↔ (m < n)
+pub less : (m n : ℕ) → (ltb m n ≡ true) ↔ (m < n)
 less m n = (ltb-true m n, lt-ltb m n)
 
-unequal : (m n : ℕ) → (not (eqb m n) ≡ true) ↔ (m ≡ n → ⊥)
+pub unequal : (m n : ℕ) → (not (eqb m n) ≡ true) ↔ (m ≡ n → ⊥)
 unequal m n = (λ t e. true≢false (sym t ∙ ap not (eq-eqb m n e)), λ differ. ap not (ne-eqb m n differ))
 
 fails : (test : Bool) → (test ≡ true → ⊥) → test ≡ false
