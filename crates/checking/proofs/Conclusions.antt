@@ -1,3 +1,4 @@
--- What a caller may conclude from calls of `check`: `call-meaning` of one call, `demand-3-of-calls` of two.
+-- What a caller may conclude from calls of `check`: `call-meaning` of one call, `demand-3-of-calls` of two, `merged-calls` of three.
 pub mod Calls
 pub mod Demand
+pub mod Merged

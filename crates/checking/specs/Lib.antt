@@ -1,2 +1,3 @@
 -- What a caller may conclude from calls.
 pub mod Calls
+pub mod MergedCalls

@@ -2,3 +2,4 @@
 pub mod Replies
 pub mod Calls
 pub mod Refusals
+pub mod Mergers

@@ -1,0 +1,33 @@
+-- Each answer has its reply.
+use borrow.Author.Needs.{needs}
+use Rattle.goosedawn_c.proofs.merge.merging_of.Statement.{statement}
+use Rattle.goosedawn_c.proofs.merge.merging_of.Tie as tie
+
+enum-known-answer : tie.Need-enum-known-answer
+enum-known-answer c = search needs
+
+enum-known-answer-2 : tie.Need-enum-known-answer-2
+enum-known-answer-2 c = search needs
+
+number-of-requires : tie.Need-number-of-requires
+number-of-requires c κs = search needs
+
+place-of-requires : tie.Need-place-of-requires
+place-of-requires c κs = search needs
+
+returns : tie.Need-returns
+returns c = rw (c .before .answer .given .1)
+
+returns-2 : tie.Need-returns-2
+returns-2 c = rw (c .before .before .before .answer2 .given .1, c .before .number-of .ensures, c .place-of .ensures)
+
+pub merging-of-spec : {M : Type 1} → statement M
+merging-of-spec =
+    tie.close
+    (tie.spec
+    enum-known-answer
+    enum-known-answer-2
+    number-of-requires
+    place-of-requires
+    returns
+    returns-2)

@@ -1,0 +1,49 @@
+-- The reply of merging two output types, and what a caller in C or Rust may conclude from it: the reply and the closing buffers are those
+-- of the definition, of which the model says what they mean.
+use mathlib.Core.Path.{_≡_, refl, ap, sym, subst, _∙_}
+use mathlib.Core.List.{List}
+use Prim.Native.Nat.{ℕ}
+use native.Mathlib.Omega.{arith}
+use borrow.Author.Tests.{ne-eqb}
+use lib.Dec.{eqb}
+use Rattle.foundation.specs.Tests.{choose}
+use Rattle.model.specs.Tables.{OutputType}
+use Rattle.model.specs.Answers.{Verdict, fine, refused}
+use Rattle.model.specs.Merging.{MergingAnswer, merged, notMerged, Merged, mergingVerdict, merging, MergingMeans}
+use Rattle.model.proofs.Laws.Merging.{merging-refused, merging-fine}
+use Rattle.model.proofs.Meaning.MergingAnswers.{merging-number, merging-means}
+use Rattle.goosedawn_c.specs.declared.merge.Merging.{Merging}
+
+abbrev pub mergingReply : MergingAnswer → Merging
+mergingReply (merged states) = record { states = states; number = 0; place = 0 }
+mergingReply (notMerged number place) = record { states = 0; number = number; place = place }
+
+-- a reply and what the two buffers then hold are those of the definition
+abbrev pub MergesInto : Merging → (table marks : List ℕ) → Merged → Type 0
+MergesInto r table marks result = (r ≡ mergingReply (result .answer)) × (table ≡ result .table) × (marks ≡ result .marks)
+
+-- the answer of a reply
+abbrev pub answerOfMerging : Merging → MergingAnswer
+answerOfMerging r = choose (eqb (r .number) 0) (merged (r .states)) (notMerged (r .number) (r .place))
+
+module _ (S : ℕ) (Y : OutputType) (S′ : ℕ) (Z : OutputType) (tableBuffer marksBuffer : List ℕ) where
+  abbrev result : Merged
+  result = merging S Y S′ Z tableBuffer marksBuffer
+
+  -- no two answers of merging have one reply: no refusal has the number 0
+  pub answer-of-merging : answerOfMerging (mergingReply (result .answer)) ≡ result .answer
+  answer-of-merging = go (mergingVerdict S Y S′ Z tableBuffer marksBuffer) refl
+    where
+      go : (v : Verdict) → mergingVerdict S Y S′ Z tableBuffer marksBuffer ≡ v → answerOfMerging (mergingReply (result .answer)) ≡ result .answer
+      go fine e = rw (merging-fine S Y S′ Z tableBuffer marksBuffer e)
+      go (refused number place) e =
+          rw (
+            merging-refused S Y S′ Z tableBuffer marksBuffer number place e,
+            ne-eqb number 0 (λ zero. omega (arith, zero, merging-number S Y S′ Z tableBuffer marksBuffer number place e)),
+          )
+
+  -- by what `goosedawn_merge` promises
+  pub merge-call : (r : Merging) (table marks : List ℕ) → MergesInto r table marks result
+      → MergingMeans S Y S′ Z tableBuffer marksBuffer (record { answer = answerOfMerging r; table = table; marks = marks })
+  merge-call r table marks promise =
+      rw (ap answerOfMerging (promise .0) ∙ answer-of-merging, promise .1, promise .2) (merging-means S Y S′ Z tableBuffer marksBuffer)
