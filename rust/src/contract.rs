@@ -100,8 +100,9 @@ pub struct OutputType<'a> {
     pub marks: &'a [u16],
 }
 
+/// What a type without a fault says.
 impl OutputType<'_> {
-    /// The state of the empty forest, where the type is good. So in the two functions below.
+    /// The state of the empty forest.
     pub fn state_of_empty(&self) -> usize {
         usize::from(self.table[0])
     }

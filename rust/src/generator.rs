@@ -389,7 +389,7 @@ fn index(random: &mut Random, length: usize) -> usize {
     [0, length - 1, random.below(length)][random.below(3)]
 }
 
-/// Puts a fault into an output type that may have some already; now and then it takes one away.
+/// Changes an output type, which may have faults already, so that mostly it has one more.
 fn damage_type(random: &mut Random, damaged: &mut OutputTables) {
     const LARGE: [usize; 4] = [65_535, 65_536, 1 << 63, usize::MAX];
     let large = LARGE[random.below(LARGE.len())];

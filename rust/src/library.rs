@@ -167,8 +167,9 @@ struct Told {
     place: usize,
 }
 
-/// How many states a merged type has, or why there is none; number 0 where nothing is refused.
+/// How many states a merged type has, or why there is none; what is not told is 0.
 #[repr(C)]
+#[derive(Debug)]
 struct Merging {
     states: usize,
     number: usize,
@@ -314,9 +315,10 @@ impl Engine for Library {
                 marks.len(),
             )
         };
-        match merging.number {
-            0 => Ok(merging.states),
-            number => Err((number as u64, merging.place)),
+        match merging {
+            Merging { states, number: 0, place: 0 } => Ok(states),
+            Merging { states: 0, number: number @ 1.., place } => Err((number as u64, place)),
+            other => panic!("the library does not answer {other:?}"),
         }
     }
 }
