@@ -1,4 +1,5 @@
-/* Goosedawn for C: contracts admitted and checked, documents judged, transformed and compared, trees written out.
+/* Goosedawn for C: contracts admitted and checked, documents judged, transformed and compared, trees written out,
+ * output types merged.
  *
  * Link with target/staticlib/libgoosedawn_c.a, which `rt staticlib goosedawn_c` proves and writes (x86-64).
  *
@@ -164,6 +165,38 @@ static inline goosedawn_stretch goosedawn_shorter(size_t symbols, const uint16_t
  *   54, 55  the same of the second buffer: 54 as 11, 55 as 12 */
 goosedawn_refusal goosedawn_shorter_refusal(size_t symbols, const uint16_t *first, size_t first_length,
                                             const uint16_t *second, size_t second_length);
+
+/* What merging answers. */
+typedef struct {
+    size_t states; /* of the merged type; 0 where something is refused */
+    size_t number; /* of the refusal; 0 where nothing is refused */
+    size_t place;  /* of the refusal; 0 where nothing is refused */
+} goosedawn_merging;
+
+/* Merges two output types into one that allows a tree exactly if both do: one contract for two receivers, as in
+ * examples/c/receivers.c. A type is its symbols and states, then a table and marks like output_table and output_marks
+ * above. A tree that has state m in the first type and n in the second has in the merged one the state
+ * m x second_states + n, which is accepted if m and n both are. Of a merged type with p states, 1 + (symbols - 1) x p x
+ * p numbers are written at the start of the merged table, and p at the start of the merged marks: 241 and 4 at most.
+ * What follows them in a longer buffer is kept.
+ *
+ * The first refusal that applies, in this order, with its lowest place:
+ *   51  a fault in the first type: 0 symbols, 1 states, 2 the table's length, 3 the marks' length, otherwise 4 plus the
+ *       index, through table and marks laid end to end, of an entry that is no state or a mark above 1
+ *   52  the same in the second type, which is only looked at if the first is good
+ *   50  the types' symbols differ: the second's
+ *   53  there would be more than 4 states: how many
+ *   56  a buffer is shorter than what is to be written: 0 the merged table, 1 the merged marks
+ * which write nothing.
+ *
+ * Of contracts that differ in their output type alone, the one with the merged type passes exactly if the one with the
+ * first type and the one with the second both pass, provided that none of the three checks is refused. It may have more
+ * facts and more kinds than the other two, so that it may be refused by 8 or 10 where they are not. */
+goosedawn_merging goosedawn_merge(size_t symbols, size_t states, const uint16_t *table, size_t table_length,
+                                  const uint16_t *marks, size_t marks_length, size_t second_symbols,
+                                  size_t second_states, const uint16_t *second_table, size_t second_table_length,
+                                  const uint16_t *second_marks, size_t second_marks_length, uint16_t *merged_table,
+                                  size_t merged_table_length, uint16_t *merged_marks, size_t merged_marks_length);
 
 #ifdef __cplusplus
 }

@@ -2,7 +2,7 @@
 
 use crate::contract::Contract;
 use crate::engine::{Answer, Engine, Refusal};
-use crate::generator::{self, Pair, Random};
+use crate::generator::{self, Merging, Pair, Random};
 use std::fmt::Debug;
 
 /// A question on which two engines differ.
@@ -134,6 +134,22 @@ fn ask_pair(left: &impl Engine, right: &impl Engine, random: &mut Random, seen: 
     Ok(())
 }
 
+fn ask_types(left: &impl Engine, right: &impl Engine, random: &mut Random, seen: &mut Seen) -> Result<(), Difference> {
+    let Merging { first, second, table_room, marks_room } = generator::merging(random);
+    let (first, second) = (first.output_type(), second.output_type());
+    let merged = agree(
+        (numbers(random, table_room), numbers(random, marks_room)),
+        || format!("merge {table_room} {marks_room} {first:?} {second:?}"),
+        |(table, marks)| left.merge(first, second, table, marks),
+        |(table, marks)| right.merge(first, second, table, marks),
+    )?;
+    match merged {
+        Err(_) => seen.refused += 1,
+        Ok(_) => seen.answered += 1,
+    }
+    Ok(())
+}
+
 /// Asks as many random questions of each sort; the first difference, or what was seen.
 pub fn compare(left: &impl Engine, right: &impl Engine, seed: u64, questions: usize) -> Result<Seen, Difference> {
     let mut random = Random::new(seed);
@@ -143,6 +159,7 @@ pub fn compare(left: &impl Engine, right: &impl Engine, seed: u64, questions: us
         ask_contract(left, right, &mut random, &contract, &mut seen)?;
         ask_rows(left, right, &mut random, &mut seen)?;
         ask_pair(left, right, &mut random, &mut seen)?;
+        ask_types(left, right, &mut random, &mut seen)?;
     }
     Ok(seen)
 }

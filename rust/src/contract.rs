@@ -1,4 +1,5 @@
-//! The tables of a contract, exactly as they are handed in: nothing here is known to be admitted.
+//! The tables of a contract and of an output type by itself, exactly as they are handed in: nothing here is known to be
+//! admitted.
 
 /// Sizes and tables, in the order in which every operation takes them.
 #[derive(Clone, Debug, Default, PartialEq, Eq)]
@@ -79,8 +80,55 @@ impl Contract {
 
     /// The state that the output table gives a symbol other than 0 over two states.
     pub fn output_state(&self, symbol: usize, left: usize, right: usize) -> usize {
-        let states = self.output_states;
-        usize::from(self.output_table[1 + ((symbol - 1) * states + left) * states + right])
+        self.output_type().state(symbol, left, right)
+    }
+
+    /// The output type, with the symbols that it is over.
+    pub fn output_type(&self) -> OutputType<'_> {
+        let (symbols, states) = (self.symbols, self.output_states);
+        OutputType { symbols, states, table: &self.output_table, marks: &self.output_marks }
+    }
+}
+
+/// An output type by itself: a contract's, or one of [`OutputTables`].
+#[derive(Clone, Copy, Debug, PartialEq, Eq)]
+pub struct OutputType<'a> {
+    pub symbols: usize,
+    pub states: usize,
+    /// The state of symbol 0, then a state for each other symbol, left state and right state.
+    pub table: &'a [u16],
+    pub marks: &'a [u16],
+}
+
+/// What a type without a fault says.
+impl OutputType<'_> {
+    /// The state of the empty forest.
+    pub fn state_of_empty(&self) -> usize {
+        usize::from(self.table[0])
+    }
+
+    /// The state of a symbol other than 0 over two states.
+    pub fn state(&self, symbol: usize, left: usize, right: usize) -> usize {
+        usize::from(self.table[1 + ((symbol - 1) * self.states + left) * self.states + right])
+    }
+
+    pub fn accepts(&self, state: usize) -> bool {
+        self.marks[state] == 1
+    }
+}
+
+/// The tables of an output type that is not a contract's.
+#[derive(Clone, Debug, Default, PartialEq, Eq)]
+pub struct OutputTables {
+    pub symbols: usize,
+    pub states: usize,
+    pub table: Vec<u16>,
+    pub marks: Vec<u16>,
+}
+
+impl OutputTables {
+    pub fn output_type(&self) -> OutputType<'_> {
+        OutputType { symbols: self.symbols, states: self.states, table: &self.table, marks: &self.marks }
     }
 }
 

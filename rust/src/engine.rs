@@ -1,6 +1,6 @@
-//! The five operations and the comparing of two documents, for whoever performs them.
+//! The five operations, the comparing of two documents and the merging of two output types, for whoever performs them.
 
-use crate::contract::Contract;
+use crate::contract::{Contract, OutputType};
 use std::fmt;
 
 /// What one of the five operations answers, with its numbers; `taken` is how many numbers the document took.
@@ -124,4 +124,40 @@ pub trait Engine {
     /// assert_eq!(library.shorter(2, &[0], &[1, 5]), []);
     /// ```
     fn shorter_refusal(&self, symbols: usize, first: &[u16], second: &[u16]) -> Option<Refusal>;
+
+    /// Merges two output types into one that allows a tree exactly if both do. A tree that has state m in the first and
+    /// n in the second has in the merged one the state m × (the second's states) + n. Its table and its marks are
+    /// written at the start of the two buffers, which keep what follows, and how many states it has comes back.
+    ///
+    /// The first refusal that applies, with its lowest place: 51, a fault in the first type; 52, one in the second
+    /// (place 0 its symbols are not 1 to 16, 1 its states not 1 to 4, 2 its table's length, 3 its marks' length, else 4
+    /// plus the index, through table and marks laid end to end, of an entry that is no state or a mark above 1); 50, the
+    /// second type has another number of symbols than the first (the second's); 53, there would be more than 4 states
+    /// (how many); 56, a buffer is too short, 0 for the table, 1 for the marks. A refusal writes nothing.
+    ///
+    /// So where a contract is checked with each of the two types and with the merged one, and no check is refused, the
+    /// merged one passes exactly if both others do.
+    ///
+    /// ```
+    /// use goosedawn::contract::OutputType;
+    /// use goosedawn::engine::Engine;
+    /// use goosedawn::library::Library;
+    ///
+    /// // The first allows no element of symbol 1, the second none of symbol 2; in both, state 1 has one.
+    /// let first = OutputType { symbols: 3, states: 2, table: &[0, 1, 1, 1, 1, 0, 1, 1, 1], marks: &[1, 0] };
+    /// let second = OutputType { table: &[0, 0, 1, 1, 1, 1, 1, 1, 1], ..first };
+    /// let (mut table, mut marks) = ([7; 33], [7; 5]);
+    /// assert_eq!(Library::default().merge(first, second, &mut table, &mut marks), Ok(4));
+    /// assert_eq!(table[..17], [0, 2, 3, 2, 3, 3, 3, 3, 3, 2, 3, 2, 3, 3, 3, 3, 3]);
+    /// assert_eq!(marks, [1, 0, 0, 0, 7]);
+    ///
+    /// assert_eq!(Library::default().merge(first, second, &mut table[1..], &mut marks), Err((56, 0)));
+    /// ```
+    fn merge(
+        &self,
+        first: OutputType<'_>,
+        second: OutputType<'_>,
+        table: &mut [u16],
+        marks: &mut [u16],
+    ) -> Result<usize, Refusal>;
 }

@@ -1,6 +1,6 @@
 //! Random questions from a seed: the same seed gives the same questions everywhere.
 
-use crate::contract::Contract;
+use crate::contract::{Contract, OutputTables};
 use crate::model::documents::MOST_NUMBERS;
 use std::ops::Range;
 
@@ -357,6 +357,91 @@ pub fn pair(random: &mut Random) -> Pair {
         pair.symbols = [0, 1, 16, 17, 65_536, 1 << 32 | 1, usize::MAX][random.below(7)];
     }
     pair
+}
+
+/// Two output types to be merged, and the lengths of the buffers for the merged table and marks.
+#[derive(Clone, Debug, PartialEq, Eq)]
+pub struct Merging {
+    pub first: OutputTables,
+    pub second: OutputTables,
+    pub table_room: usize,
+    pub marks_room: usize,
+}
+
+/// An output type without a fault.
+pub fn output_tables(random: &mut Random, symbols: usize, states: usize) -> OutputTables {
+    let table = random.list(1 + (symbols - 1) * states * states, states);
+    OutputTables { symbols, states, table, marks: random.list(states, 2) }
+}
+
+/// How many states two types have: mostly at most four pairs of them.
+fn states_of_two(random: &mut Random) -> (usize, usize) {
+    const FEW: [(usize, usize); 8] = [(1, 1), (1, 2), (1, 3), (1, 4), (2, 1), (2, 2), (3, 1), (4, 1)];
+    match random.below(4) {
+        0 => (random.within(1, 4), random.within(1, 4)),
+        1 => (2, 2),
+        _ => FEW[random.below(FEW.len())],
+    }
+}
+
+/// An index of a list that is not empty: often the first or the last.
+fn index(random: &mut Random, length: usize) -> usize {
+    [0, length - 1, random.below(length)][random.below(3)]
+}
+
+/// Changes an output type, which may have faults already, so that mostly it has one more.
+fn damage_type(random: &mut Random, damaged: &mut OutputTables) {
+    const LARGE: [usize; 4] = [65_535, 65_536, 1 << 63, usize::MAX];
+    let large = LARGE[random.below(LARGE.len())];
+    match random.below(8) {
+        0 => damaged.symbols = [0, 17, large, damaged.symbols | 1 << 32][random.below(4)],
+        1 => damaged.states = [0, 5, large, damaged.states | 1 << 32][random.below(4)],
+        2 => damage(random, &mut damaged.table),
+        3 => damage(random, &mut damaged.marks),
+        4 | 5 if !damaged.table.is_empty() => {
+            let place = index(random, damaged.table.len());
+            damaged.table[place] = [damaged.states as u16, 4, 65_535][random.below(3)];
+        }
+        _ if !damaged.marks.is_empty() => {
+            let place = index(random, damaged.marks.len());
+            damaged.marks[place] = [2, 3, 65_535][random.below(3)];
+        }
+        _ => damaged.marks.push(2),
+    }
+}
+
+/// The length of a buffer for so many numbers: just as many, one too few, or any other.
+fn room(random: &mut Random, due: usize) -> usize {
+    match random.below(8) {
+        0 => due - 1,
+        1 => due + random.within(1, 9),
+        2 => random.within(0, due),
+        _ => due,
+    }
+}
+
+/// Two output types of any sort: without a fault, with faults in one of them or in both, or over differing symbol counts.
+pub fn merging(random: &mut Random) -> Merging {
+    let most = if random.once_in(2) { 3 } else { 16 };
+    let symbols = if random.once_in(8) { 16 } else { random.within(1, most) };
+    let second_symbols = if random.once_in(12) { random.within(1, 16) } else { symbols };
+    let states = states_of_two(random);
+    let mut first = output_tables(random, symbols, states.0);
+    let mut second = output_tables(random, second_symbols, states.1);
+    let (damage_first, damage_second) = match random.below(12) {
+        0 | 1 => (true, false),
+        2 | 3 => (false, true),
+        4 => (true, true),
+        _ => (false, false),
+    };
+    for (damaged, due) in [(&mut first, damage_first), (&mut second, damage_second)] {
+        for _ in 0..if due { random.within(1, 3) } else { 0 } {
+            damage_type(random, damaged);
+        }
+    }
+    let pairs = states.0 * states.1;
+    let table_room = room(random, 1 + (symbols - 1) * pairs * pairs);
+    Merging { first, second, table_room, marks_room: room(random, pairs) }
 }
 
 /// Rows over smaller rows, sometimes damaged.

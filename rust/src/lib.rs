@@ -1,12 +1,13 @@
 //! Goosedawn seen from Rust.
 //!
-//! * [`contract`]: the tables of a contract, as they are handed in.
-//! * [`engine`]: the five operations and the comparing of two documents as a trait, and their answers. The seam at
-//!   which an implementation is plugged in.
+//! * [`contract`]: the tables of a contract and of an output type by itself, as they are handed in.
+//! * [`engine`]: the five operations, the comparing of two documents and the merging of two output types as a trait, and
+//!   their answers. The seam at which an implementation is plugged in.
 //! * [`model`]: an independent, plain implementation of these.
 //! * [`library`]: the proved library, called through its C functions.
 //! * [`script`]: scripts of questions, played on any engine.
-//! * [`generator`]: random contracts, documents, rows and pairs of buffers, valid and damaged, from a seed.
+//! * [`generator`]: random contracts, documents, rows, pairs of buffers and pairs of output types, valid and damaged, from
+//!   a seed.
 //! * [`comparison`]: two engines asked the same random questions.
 //! * [`timing`]: how long two engines take for the same question.
 

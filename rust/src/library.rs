@@ -1,6 +1,6 @@
 //! The proved library as an engine: safe calls of its C functions.
 
-use crate::contract::Contract;
+use crate::contract::{Contract, OutputType};
 use crate::engine::{Answer, Engine, Refusal};
 #[cfg(feature = "compare")]
 use std::mem::MaybeUninit;
@@ -167,6 +167,15 @@ struct Told {
     place: usize,
 }
 
+/// How many states a merged type has, or why there is none; what is not told is 0.
+#[repr(C)]
+#[derive(Debug)]
+struct Merging {
+    states: usize,
+    number: usize,
+    place: usize,
+}
+
 extern "C" {
     fn goosedawn_shorter_into(
         symbols: usize,
@@ -183,6 +192,24 @@ extern "C" {
         second: *const u16,
         second_length: usize,
     ) -> Told;
+    fn goosedawn_merge(
+        symbols: usize,
+        states: usize,
+        table: *const u16,
+        table_length: usize,
+        marks: *const u16,
+        marks_length: usize,
+        second_symbols: usize,
+        second_states: usize,
+        second_table: *const u16,
+        second_table_length: usize,
+        second_marks: *const u16,
+        second_marks_length: usize,
+        merged_table: *mut u16,
+        merged_table_length: usize,
+        merged_marks: *mut u16,
+        merged_marks_length: usize,
+    ) -> Merging;
 }
 
 /// The proved library; runs are made on a thread with a stack of `run_stack` bytes.
@@ -205,7 +232,8 @@ impl Library {
     }
 
     /// An older build, which `tests/compare` renames and links beside the present one. How many numbers a document took
-    /// is not to be read from its answers. `shorter` and `shorter_refusal` are the present build's: an older one may not have them.
+    /// is not to be read from its answers. `shorter`, `shorter_refusal` and `merge` are the present build's: an older one
+    /// may not have them.
     #[cfg(feature = "compare")]
     pub fn old() -> Library {
         Library { functions: OLD, run_stack: RUN_STACK }
@@ -257,5 +285,40 @@ impl Engine for Library {
         let told =
             unsafe { goosedawn_shorter_refusal(symbols, first.as_ptr(), first.len(), second.as_ptr(), second.len()) };
         (told.number != 0).then_some((told.number as u64, told.place))
+    }
+
+    fn merge(
+        &self,
+        first: OutputType<'_>,
+        second: OutputType<'_>,
+        table: &mut [u16],
+        marks: &mut [u16],
+    ) -> Result<usize, Refusal> {
+        // Each pair is a live slice of that length, and the two that are written overlap no other.
+        let merging = unsafe {
+            goosedawn_merge(
+                first.symbols,
+                first.states,
+                first.table.as_ptr(),
+                first.table.len(),
+                first.marks.as_ptr(),
+                first.marks.len(),
+                second.symbols,
+                second.states,
+                second.table.as_ptr(),
+                second.table.len(),
+                second.marks.as_ptr(),
+                second.marks.len(),
+                table.as_mut_ptr(),
+                table.len(),
+                marks.as_mut_ptr(),
+                marks.len(),
+            )
+        };
+        match merging {
+            Merging { states, number: 0, place: 0 } => Ok(states),
+            Merging { states: 0, number: number @ 1.., place } => Err((number as u64, place)),
+            other => panic!("the library does not answer {other:?}"),
+        }
     }
 }

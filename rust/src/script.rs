@@ -1,7 +1,8 @@
-//! Scripts of questions, and their answers line for line. docs/FORMAT.md describes both; the statements `taken` and
-//! `shorter` belong to these scripts alone, and the program `goosedawn` does not know them.
+//! Scripts of questions, and their answers line for line. docs/FORMAT.md describes both; the statements `taken`, `shorter`
+//! and `merge`, and those that set a second output type for it, belong to these scripts alone, and the program `goosedawn`
+//! does not know them.
 
-use crate::contract::Contract;
+use crate::contract::{Contract, OutputTables, OutputType};
 use crate::engine::{Answer, Engine, Refusal};
 use std::fmt::Write;
 
@@ -39,6 +40,11 @@ write J B: write out the tree of row J, with room for B numbers
 show: the buffers as the last check, run or judge left them
 taken: how many numbers the last judge or run took
 shorter S N .. and N ..: the shorter of the documents over S symbols that the two lists begin with, the first on a tie
+second-symbols N: how many symbols the second output type has
+second-states N: how many states the second output type has
+second-table N ..: the second output type's table, as output-table
+second-marks N ..: the second output type's marks, as output-marks
+merge T M: merge the contract's output type and the second into buffers of T and M numbers, which show prints then
 ";
 
 /// A token: where it starts, and its bytes.
@@ -190,6 +196,8 @@ fn buffer_of(stretch: &[u16], first: &[u16], second: &[u16]) -> &'static str {
 struct Left {
     rows: Option<Vec<u16>>,
     words: Option<Vec<u64>>,
+    /// Of a merged type: the table and the marks.
+    merged: Option<[Vec<u16>; 2]>,
 }
 
 /// A script being played.
@@ -197,6 +205,8 @@ struct Player<'e, E: Engine> {
     engine: &'e E,
     label: Vec<u8>,
     contract: Contract,
+    /// The output type that `merge` takes beside the contract's.
+    second: OutputTables,
     rows: Vec<u16>,
     left: Left,
     /// How many numbers the last document took.
@@ -238,7 +248,7 @@ impl<E: Engine> Player<'_, E> {
         let answer = self.engine.check(&self.contract, limit, &mut rows, &mut words);
         self.say(&answer.to_string());
         self.keep_rows(answer, &rows);
-        self.left = Left { rows: Some(rows), words: Some(words) };
+        self.left = Left { rows: Some(rows), words: Some(words), ..Left::default() };
     }
 
     fn run(&mut self, free: u16, numbers: &[u16]) {
@@ -246,7 +256,7 @@ impl<E: Engine> Player<'_, E> {
         let answer = self.engine.run(&self.contract, numbers, &mut rows);
         self.say(&answer.to_string());
         self.keep_rows(answer, &rows);
-        self.left = Left { rows: Some(rows), words: None };
+        self.left = Left { rows: Some(rows), ..Left::default() };
         self.taken = answer.taken();
     }
 
@@ -254,7 +264,7 @@ impl<E: Engine> Player<'_, E> {
         let mut kind = [u64::from(UNTOUCHED); 5];
         let answer = self.engine.judge(&self.contract, numbers, &mut kind);
         self.say(&answer.to_string());
-        self.left = Left { rows: None, words: Some(kind.to_vec()) };
+        self.left = Left { words: Some(kind.to_vec()), ..Left::default() };
         self.taken = answer.taken();
     }
 
@@ -275,6 +285,10 @@ impl<E: Engine> Player<'_, E> {
         if let Some(words) = &left.words {
             self.say_list("words", words);
         }
+        if let Some([table, marks]) = &left.merged {
+            self.say_list("table", table);
+            self.say_list("marks", marks);
+        }
         self.left = left;
     }
 
@@ -293,6 +307,16 @@ impl<E: Engine> Player<'_, E> {
         let shorter = self.engine.shorter(symbols, first, second);
         let buffer = buffer_of(shorter, first, second);
         self.say_list(&format!("shorter {buffer} {}:", shorter.len()), shorter);
+    }
+
+    fn merge(&mut self, table_room: u16, marks_room: u16) {
+        let mut buffers = [table_room, marks_room].map(|room| vec![u16::from(UNTOUCHED); usize::from(room)]);
+        let [table, marks] = &mut buffers;
+        match self.engine.merge(self.contract.output_type(), self.second.output_type(), table, marks) {
+            Ok(states) => self.say(&format!("merged {states}")),
+            Err((number, place)) => self.say(&Answer::Refused { number, place }.to_string()),
+        }
+        self.left = Left { merged: Some(buffers), ..Left::default() };
     }
 
     /// One statement, or false at the end.
@@ -343,6 +367,15 @@ impl<E: Engine> Player<'_, E> {
                 let second = reader.numbers()?;
                 self.shorter(symbols, &first, &second);
             }
+            b"second-symbols" => self.second.symbols = usize::from(reader.number()?),
+            b"second-states" => self.second.states = usize::from(reader.number()?),
+            b"second-table" => self.second.table = reader.numbers()?,
+            b"second-marks" => self.second.marks = reader.numbers()?,
+            b"merge" => {
+                let table_room = reader.number()?;
+                let marks_room = reader.number()?;
+                self.merge(table_room, marks_room);
+            }
             _ => return Err(reader.fault(Some(word), A_STATEMENT)),
         }
         Ok(true)
@@ -378,6 +411,7 @@ pub fn play<E: Engine>(engine: &E, script: &[u8]) -> Played {
         engine,
         label: b"-".to_vec(),
         contract: Contract::default(),
+        second: OutputTables::default(),
         rows: Vec::new(),
         left: Left::default(),
         taken: None,
@@ -433,6 +467,9 @@ pub fn checks(script: &[u8]) -> Vec<(String, Contract, u16)> {
         }
         fn shorter_refusal(&self, _: usize, _: &[u16], _: &[u16]) -> Option<Refusal> {
             None
+        }
+        fn merge(&self, _: OutputType, _: OutputType, _: &mut [u16], _: &mut [u16]) -> Result<usize, Refusal> {
+            Ok(0)
         }
     }
     let collector = Collector(std::cell::RefCell::new(Vec::new()));

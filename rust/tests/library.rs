@@ -1,9 +1,9 @@
-//! The proved library answers every script of the folder that GOOSEDAWN_VECTORS names as its answers say, and agrees with
-//! the model on random questions, valid and damaged, closing buffers included. Documents laid end to end are judged and run
-//! one after another as each is alone.
+//! The proved library answers every script of examples/library, and of the folder that GOOSEDAWN_VECTORS names, as its
+//! answers say, and agrees with the model on random questions, valid and damaged, closing buffers included. Documents laid
+//! end to end are judged and run one after another as each is alone.
 
 use goosedawn::comparison::compare;
-use goosedawn::contract::Contract;
+use goosedawn::contract::{Contract, OutputType};
 use goosedawn::engine::{Answer, Engine, Refusal};
 use goosedawn::generator::{document, valid, Random, Size};
 use goosedawn::library::Library;
@@ -28,6 +28,7 @@ struct Counted {
     runs: Cell<usize>,
     writings: Cell<usize>,
     pairs: Cell<usize>,
+    mergings: Cell<usize>,
 }
 
 fn count(cell: &Cell<usize>) {
@@ -62,6 +63,16 @@ impl Engine for Counted {
         count(&self.pairs);
         self.library.shorter_refusal(symbols, first, second)
     }
+    fn merge(
+        &self,
+        first: OutputType<'_>,
+        second: OutputType<'_>,
+        table: &mut [u16],
+        marks: &mut [u16],
+    ) -> Result<usize, Refusal> {
+        count(&self.mergings);
+        self.library.merge(first, second, table, marks)
+    }
 }
 
 /// Plays a script; says how many lines agree and how many answers of each operation they hold. True if all agree.
@@ -72,7 +83,7 @@ fn agrees(script: &Path, answers: &Path) -> bool {
     let lines = right.lines().count();
     let same = said.lines().zip(right.lines()).filter(|(said, right)| said == right).count();
     println!(
-        "{}: {same} of {lines} lines agree; admit {}, judge {}, check {}, run {}, write {}, shorter {}",
+        "{}: {same} of {lines} lines agree; admit {}, judge {}, check {}, run {}, write {}, shorter {}, merge {}",
         script.file_name().expect("a name").to_string_lossy(),
         engine.admissions.get(),
         engine.judgings.get(),
@@ -80,6 +91,7 @@ fn agrees(script: &Path, answers: &Path) -> bool {
         engine.runs.get(),
         engine.writings.get(),
         engine.pairs.get(),
+        engine.mergings.get(),
     );
     if let Some((said, right)) = said.lines().zip(right.lines()).find(|(said, right)| said != right) {
         println!("  {said} instead of {right}");
@@ -87,12 +99,8 @@ fn agrees(script: &Path, answers: &Path) -> bool {
     same == lines && said.lines().count() == lines
 }
 
-#[test]
-fn vectors() {
-    let Some(folder) = std::env::var_os(FOLDER) else {
-        println!("skipped: {FOLDER} names no folder");
-        return;
-    };
+/// Plays the scripts of a folder that have answers; there is one at least.
+fn all_agree(folder: &Path) {
     let mut scripts: Vec<_> =
         std::fs::read_dir(folder).expect("the folder").map(|entry| entry.expect("one").path()).collect();
     scripts.retain(|script| script.extension().is_some_and(|end| end == "script"));
@@ -101,6 +109,20 @@ fn vectors() {
     let wrong = scripts.iter().filter(|script| !agrees(script, &script.with_extension("answers"))).count();
     assert!(!scripts.is_empty(), "no script in the folder");
     assert_eq!(wrong, 0, "scripts with a wrong answer");
+}
+
+#[test]
+fn vectors() {
+    match std::env::var_os(FOLDER) {
+        Some(folder) => all_agree(Path::new(&folder)),
+        None => println!("skipped: {FOLDER} names no folder"),
+    }
+}
+
+/// The examples that have statements of these scripts alone.
+#[test]
+fn examples_for_the_library() {
+    all_agree(&Path::new(env!("CARGO_MANIFEST_DIR")).join("../examples/library"));
 }
 
 #[test]

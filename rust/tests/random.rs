@@ -1,9 +1,9 @@
 //! The generator makes what it says, and the comparison notices a wrong engine.
 
 use goosedawn::comparison::compare;
-use goosedawn::contract::Contract;
+use goosedawn::contract::{Contract, OutputType};
 use goosedawn::engine::{Answer, Engine};
-use goosedawn::generator::{contract, damaged, document, numbers, pair, valid, Pair, Random, Size};
+use goosedawn::generator::{contract, damaged, document, merging, numbers, pair, valid, Merging, Pair, Random, Size};
 use goosedawn::model::documents::leading_document;
 use goosedawn::model::{Model, Refusal};
 use std::ptr;
@@ -138,12 +138,99 @@ fn pairs_meet_every_case() {
     }
 }
 
+/// What the model says of two types.
+fn merged(merging: &Merging) -> Result<usize, Refusal> {
+    let Merging { first, second, table_room, marks_room } = merging;
+    Model.merge(first.output_type(), second.output_type(), &mut vec![7; *table_room], &mut vec![7; *marks_room])
+}
+
+/// What the model says of two types with room for whatever they merge to.
+fn merged_with_room(merging: &Merging) -> Result<usize, Refusal> {
+    merged(&Merging { table_room: 1000, marks_room: 1000, ..merging.clone() })
+}
+
+/// What the model says of the second type in the place of the first.
+fn second_merged(merging: &Merging) -> Result<usize, Refusal> {
+    merged(&Merging { first: merging.second.clone(), ..merging.clone() })
+}
+
+/// Two types and the lengths of two buffers.
+type MergingCase = fn(&Merging) -> bool;
+
+#[test]
+fn mergings_meet_every_case() {
+    let cases: [(&str, MergingCase); 33] = [
+        ("one symbol", |m| merged(m).is_ok() && m.first.symbols == 1),
+        ("sixteen symbols", |m| merged(m) == Ok(4) && m.first.symbols == 16),
+        ("buffers just as long", |m| merged(m) == Ok(4) && m.table_room % 16 == 1 && m.marks_room == 4),
+        ("a longer table", |m| {
+            merged(m).is_ok_and(|states| m.table_room > 1 + (m.first.symbols - 1) * states * states)
+        }),
+        ("longer marks", |m| merged(m).is_ok_and(|states| m.marks_room > states)),
+        ("the first's symbols", |m| merged(m) == Err((51, 0))),
+        ("no symbols", |m| merged(m) == Err((51, 0)) && m.first.symbols == 0),
+        ("seventeen symbols", |m| merged(m) == Err((51, 0)) && m.first.symbols == 17),
+        ("very many symbols", |m| merged(m) == Err((51, 0)) && m.first.symbols == usize::MAX),
+        ("the first's states", |m| merged(m) == Err((51, 1))),
+        ("no states", |m| merged(m) == Err((51, 1)) && m.first.states == 0),
+        ("five states", |m| merged(m) == Err((51, 1)) && m.first.states == 5),
+        ("very many states", |m| merged(m) == Err((51, 1)) && m.first.states == usize::MAX),
+        ("the first's table", |m| merged(m) == Err((51, 2))),
+        ("the first's marks", |m| merged(m) == Err((51, 3))),
+        ("the first's first entry", |m| merged(m) == Err((51, 4))),
+        ("the first's last entry", |m| merged(m) == Err((51, 3 + m.first.table.len())) && m.first.table.len() > 1),
+        ("the first's first mark", |m| merged(m) == Err((51, 4 + m.first.table.len()))),
+        ("the first's last mark", |m| merged(m) == Err((51, 7 + m.first.table.len())) && m.first.states == 4),
+        ("the second's symbols", |m| merged(m) == Err((52, 0))),
+        ("the second's states", |m| merged(m) == Err((52, 1))),
+        ("the second's table", |m| merged(m) == Err((52, 2))),
+        ("the second's marks", |m| merged(m) == Err((52, 3))),
+        ("the second's last entry", |m| merged(m) == Err((52, 3 + m.second.table.len())) && m.second.table.len() > 1),
+        ("the second's first mark", |m| merged(m) == Err((52, 4 + m.second.table.len()))),
+        ("several faults in one", |m| {
+            matches!(merged(m), Err((51, place)) if place > 3 && m.first.marks.iter().any(|&mark| mark > 1)
+                && place < 4 + m.first.table.len())
+        }),
+        ("faults in both", |m| matches!(merged(m), Err((51, _))) && matches!(second_merged(m), Err((51, _)))),
+        ("a fault, and other symbols", |m| {
+            matches!(merged(m), Err((51 | 52, 4..))) && m.first.symbols != m.second.symbols
+        }),
+        ("other symbols", |m| merged(m) == Err((50, m.second.symbols))),
+        ("other symbols, and too many states", |m| {
+            matches!(merged(m), Err((50, _))) && m.first.states * m.second.states > 4
+        }),
+        ("too short a table", |m| merged(m) == Err((56, 0)) && merged_with_room(m).is_ok() && m.marks_room >= 4),
+        ("too short marks", |m| merged(m) == Err((56, 1))),
+        ("both too short", |m| {
+            merged(m) == Err((56, 0)) && merged_with_room(m).is_ok_and(|states| m.marks_room < states)
+        }),
+    ];
+    let mut random = Random::new(6);
+    let made: Vec<_> = (0..8000).map(|_| merging(&mut random)).collect();
+    for (name, case) in cases {
+        let met = made.iter().filter(|merging| case(merging)).count();
+        println!("{name}: {met}");
+        assert!(met > 0, "{name}");
+    }
+    for first in 1..=4 {
+        for second in 1..=4 {
+            let pairs = first * second;
+            let due = if pairs > 4 { Err((53, pairs)) } else { Ok(pairs) };
+            let of_states = |m: &Merging| (m.first.states, m.second.states) == (first, second) && merged(m) == due;
+            let met = made.iter().filter(|merging| of_states(merging)).count();
+            println!("{first} and {second} states: {met}");
+            assert!(met > 0, "{first} and {second} states");
+        }
+    }
+}
+
 #[test]
 fn the_same_seed_gives_the_same_questions() {
     let (mut a, mut b) = (Random::new(7), Random::new(7));
     for _ in 0..100 {
         assert_eq!(contract(&mut a), contract(&mut b));
         assert_eq!(pair(&mut a), pair(&mut b));
+        assert_eq!(merging(&mut a), merging(&mut b));
     }
 }
 
@@ -159,6 +246,10 @@ enum Wrong {
     Untouched,
     /// The shorter of two documents is a copy of it.
     Copied,
+    /// What follows merged marks in their buffer is 0.
+    Filled,
+    /// A merging that is refused writes the first mark.
+    Written,
 }
 
 impl Engine for Wrong {
@@ -171,7 +262,7 @@ impl Engine for Wrong {
     fn check(&self, contract: &Contract, limit: usize, rows: &mut [u16], words: &mut [u64]) -> Answer {
         match self {
             Wrong::Untouched => Model.check(contract, limit, &mut rows.to_vec(), &mut words.to_vec()),
-            Wrong::Copied => Model.check(contract, limit, rows, words),
+            _ => Model.check(contract, limit, rows, words),
         }
     }
     fn run(&self, contract: &Contract, numbers: &[u16], rows: &mut [u16]) -> Answer {
@@ -183,18 +274,39 @@ impl Engine for Wrong {
     fn shorter<'a>(&self, symbols: usize, first: &'a [u16], second: &'a [u16]) -> &'a [u16] {
         let shorter = Model.shorter(symbols, first, second);
         match self {
-            Wrong::Untouched => shorter,
             Wrong::Copied => shorter.to_vec().leak(),
+            _ => shorter,
         }
     }
     fn shorter_refusal(&self, symbols: usize, first: &[u16], second: &[u16]) -> Option<Refusal> {
         Model.shorter_refusal(symbols, first, second)
     }
+    fn merge(
+        &self,
+        first: OutputType<'_>,
+        second: OutputType<'_>,
+        table: &mut [u16],
+        marks: &mut [u16],
+    ) -> Result<usize, Refusal> {
+        let merged = Model.merge(first, second, table, marks);
+        match (self, merged) {
+            (Wrong::Filled, Ok(states)) => marks[states..].fill(0),
+            (Wrong::Written, Err(_)) => marks.iter_mut().take(1).for_each(|mark| *mark = 0),
+            _ => {}
+        }
+        merged
+    }
 }
 
 #[test]
 fn a_wrong_engine_is_noticed() {
-    for (wrong, question) in [(Wrong::Untouched, "check "), (Wrong::Copied, "shorter ")] {
+    let wrong_engines = [
+        (Wrong::Untouched, "check "),
+        (Wrong::Copied, "shorter "),
+        (Wrong::Filled, "merge "),
+        (Wrong::Written, "merge "),
+    ];
+    for (wrong, question) in wrong_engines {
         let difference = compare(&Model, &wrong, 11, 500).expect_err("a difference");
         assert!(difference.question.starts_with(question), "{difference:?}");
     }

@@ -1,5 +1,5 @@
-//! The worked example, the script of every answer, the numbers taken, the shorter of two documents, and what a script
-//! with a fault prints.
+//! The worked example, the script of every answer, the numbers taken, the shorter of two documents, two output types merged,
+//! and what a script with a fault prints.
 
 use goosedawn::model::Model;
 use goosedawn::script::{play, Played, HELP, MOST_BYTES};
@@ -102,6 +102,74 @@ fn the_shorter_of_two_needs_one_word_between() {
     says("case and shorter 1 0 and 0", "and shorter first 1: 0\n");
 }
 
+/// Two types over two symbols: in the first an element has the state of its left child, in the second of its right child.
+const TYPES: &str = "symbols 2 output-states 2 output-table 0 0 0 1 1 output-marks 1 0
+    second-symbols 2 second-states 2 second-table 0 0 1 0 1 second-marks 1 1 ";
+
+#[test]
+fn two_types_merged() {
+    let merged = "- merged 4\n- table 0 0 1 0 1 0 1 0 1 2 3 2 3 2 3 2 3";
+    says(&format!("{TYPES} merge 17 4"), "- merged 4\n");
+    says(&format!("{TYPES} merge 17 4 show"), &format!("{merged}\n- marks 1 1 0 0\n"));
+    says(&format!("{TYPES} merge 19 5 show"), &format!("{merged} 7 7\n- marks 1 1 0 0 7\n"));
+    says(
+        "case a symbols 1 output-states 1 output-table 0 output-marks 1 case b second-symbols 1
+        second-states 1 second-table # the state of nothing\n0 second-marks 1 merge\n1 1 show",
+        "b merged 1\nb table 0\nb marks 1\n",
+    );
+}
+
+#[test]
+fn two_types_not_merged() {
+    let refused = |set: &str, refusal: &str| {
+        says(&format!("{TYPES} {set} merge 2 1 show"), &format!("- refused {refusal}\n- table 7 7\n- marks 7\n"));
+    };
+    refused("output-marks 1 2", "51 10");
+    refused("second-marks 1 2", "52 10");
+    refused("second-symbols 1 second-table 0", "50 1");
+    refused("output-states 3 output-table 0 0 0 0 0 0 0 0 0 0 output-marks 1 1 1", "53 6");
+    refused("", "56 0");
+    says(&format!("{TYPES} merge 17 3 merge 0 0 show"), "- refused 56 1\n- refused 56 0\n- table\n- marks\n");
+}
+
+#[test]
+fn types_are_empty_until_they_are_set() {
+    says("merge 0 0", "- refused 51 0\n");
+    says("symbols 1 merge 0 0 output-states 1 merge 0 0", "- refused 51 1\n- refused 51 2\n");
+    says(
+        "symbols 1 output-states 1 output-table 0 merge 0 0 output-marks 1 merge 0 0",
+        "- refused 51 3\n- refused 52 0\n",
+    );
+    let good = "symbols 1 output-states 1 output-table 0 output-marks 1 ";
+    says(&format!("{good} second-symbols 1 merge 0 0 second-states 1 merge 0 0"), "- refused 52 1\n- refused 52 2\n");
+    let second = "second-symbols 1 second-states 1 second-table 0";
+    says(&format!("{good} {second} merge 0 0 second-marks 0 merge 0 0"), "- refused 52 3\n- refused 56 0\n");
+}
+
+#[test]
+fn a_type_stays_until_it_is_set_anew() {
+    let script = format!("{TYPES} case a merge 17 4 case b second-marks 0 1 merge 17 4 show");
+    says(&script, "a merged 4\nb merged 4\nb table 0 0 1 0 1 0 1 0 1 2 3 2 3 2 3 2 3\nb marks 0 1 0 0\n");
+    let script = format!("{TYPES} second-table merge 17 4 second-table 0 0 1 0 1 merge 17 4");
+    says(&script, "- refused 52 2\n- merged 4\n");
+}
+
+#[test]
+fn what_is_shown_is_of_the_last_question_with_buffers() {
+    let second = "second-symbols 2 second-states 1 second-table 0 0 second-marks 1";
+    let script =
+        format!("{COPY} {second} check 1 merge 2 1 show run 1 0 show merge 0 0 admit taken shorter 2 0 and 0 show");
+    let merged = "- pass 1\n- merged 1\n- table 0 0\n- marks 1\n";
+    let refused = "- refused 56 0\n- admitted\n- taken 1\n- shorter first 1: 0\n- table\n- marks\n";
+    says(&script, &format!("{merged}- run 0 1\n- rows 0 0 0\n{refused}"));
+}
+
+#[test]
+fn merging_leaves_the_contract_the_rows_and_the_numbers_taken() {
+    let script = format!("{COPY} run 1 0 9 merge 3 3 write 0 1 taken judge 0 show");
+    says(&script, "- run 0 1\n- refused 52 0\n- written 1: 0\n- taken 1\n- judged 1 1\n- words 1 1 0 0 0\n");
+}
+
 #[test]
 fn an_unknown_word() {
     stops("admit\n\nchek 5\nadmit", "- refused 1 0\nline 3: found chek, expected a statement\n");
@@ -121,6 +189,12 @@ fn a_number_that_is_too_large() {
     stops("shorter 65536 0 and 0", &format!("line 1: found 65536, {expected}"));
     stops("shorter 2 0 65536 and 0", &format!("line 1: found 65536, {expected}"));
     stops("shorter 2 0 and 0 65536", &format!("line 1: found 65536, {expected}"));
+    stops("second-symbols 65536", &format!("line 1: found 65536, {expected}"));
+    stops("second-states 65536", &format!("line 1: found 65536, {expected}"));
+    stops("second-table 0 65536", &format!("line 1: found 65536, {expected}"));
+    stops("second-marks 0 65536", &format!("line 1: found 65536, {expected}"));
+    stops("merge 65536 0", &format!("line 1: found 65536, {expected}"));
+    stops("merge 0 65536", &format!("line 1: found 65536, {expected}"));
 }
 
 #[test]
@@ -130,6 +204,11 @@ fn a_statement_cut_off() {
     stops("case # a\n", "line 2: found the end of the script, expected a name\n");
     stops("run\nadmit", "line 2: found admit, expected a number from 0 to 65535\n");
     stops("shorter and 0", "line 1: found and, expected a number from 0 to 65535\n");
+    stops("second-symbols\nadmit", "line 2: found admit, expected a number from 0 to 65535\n");
+    stops("second-states", "line 1: found the end of the script, expected a number from 0 to 65535\n");
+    stops("merge\nshow", "line 2: found show, expected a number from 0 to 65535\n");
+    stops("merge 3\nshow", "line 2: found show, expected a number from 0 to 65535\n");
+    stops("merge 3 4 5", "- refused 51 0\nline 1: found 5, expected a statement\n");
 }
 
 #[test]

@@ -1,4 +1,5 @@
-//! Plays every script of the folder that GOOSEDAWN_VECTORS names and compares the answers line for line.
+//! Plays every script of examples/library, and of the folder that GOOSEDAWN_VECTORS names, on the model and compares the
+//! answers line for line.
 
 use goosedawn::model::Model;
 use goosedawn::script::play;
@@ -15,12 +16,7 @@ fn compare(script: &Path, answers: &Path) {
     assert_eq!(said.lines().count(), right.lines().count(), "{}", script.display());
 }
 
-#[test]
-fn vectors() {
-    let Some(folder) = std::env::var_os(FOLDER) else {
-        println!("skipped: {FOLDER} names no folder");
-        return;
-    };
+fn compare_all(folder: &Path) {
     let mut played = 0;
     for entry in std::fs::read_dir(folder).expect("the folder") {
         let script = entry.expect("an entry").path();
@@ -32,4 +28,17 @@ fn vectors() {
         }
     }
     assert!(played > 0, "no script in the folder");
+}
+
+#[test]
+fn vectors() {
+    match std::env::var_os(FOLDER) {
+        Some(folder) => compare_all(Path::new(&folder)),
+        None => println!("skipped: {FOLDER} names no folder"),
+    }
+}
+
+#[test]
+fn examples_for_the_library() {
+    compare_all(&Path::new(env!("CARGO_MANIFEST_DIR")).join("../examples/library"));
 }

@@ -19,6 +19,13 @@ prints its answers. docs/FORMAT.md lists the statements. Beside those of the pro
              prints the shorter of the documents over S symbols that the two lists begin with, the first on a tie:
              `shorter first COUNT: N ..` or `shorter second COUNT: N ..`, or a refusal
 
+    second-symbols N, second-states N, second-table N .., second-marks N ..
+             set a second output type, as the contract's statements set the contract's
+
+    merge T M
+             merges the contract's output type and the second one into a table of T numbers and marks of M numbers:
+             `merged STATES`, or a refusal; `show` then prints both buffers, `table N ..` and `marks N ..`
+
 The status is 0; or 2 if the script has a fault, which the last line names, if it cannot be read or its answers cannot be
 printed, or if there is more than one argument.
 ";

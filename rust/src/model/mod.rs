@@ -5,11 +5,12 @@ pub mod admission;
 pub mod checking;
 pub mod documents;
 pub mod kinds;
+pub mod merging;
 pub mod running;
 pub mod shorter;
 pub mod writing;
 
-use crate::contract::Contract;
+use crate::contract::{Contract, OutputType};
 pub use crate::engine::Refusal;
 use crate::engine::{Answer, Engine};
 
@@ -49,5 +50,15 @@ impl Engine for Model {
 
     fn shorter_refusal(&self, symbols: usize, first: &[u16], second: &[u16]) -> Option<Refusal> {
         shorter::shorter(symbols, first, second).err()
+    }
+
+    fn merge(
+        &self,
+        first: OutputType<'_>,
+        second: OutputType<'_>,
+        table: &mut [u16],
+        marks: &mut [u16],
+    ) -> Result<usize, Refusal> {
+        merging::merge(first, second, table, marks)
     }
 }
