@@ -2,11 +2,12 @@
 ghost use mathlib.Core.Path.{_≡_};
 ghost use Rattle.model.specs.Merging.{merging};
 ghost use Rattle.merging.specs.Types.{typeOf};
-ghost use Rattle.merging.specs.Answers.{faultNumber, faultPlace, mergingAnswer};
+ghost use Rattle.merging.specs.Answers.{mergingAnswer};
 ghost use Rattle.goosedawn_c.specs.Mergers.{mergingReply, MergesInto};
 use merging::MergingAnswer;
 use merging::merge;
-use merging::testing::MergingFault;
+use merging::testing::fault_number;
+use merging::testing::fault_place;
 
 // How many states the merged type has; 0 where something is refused, and then why. Number and place are 0 where nothing is.
 #[repr(C)]
@@ -14,34 +15,6 @@ pub struct Merging {
     pub states: usize,
     pub number: usize,
     pub place: usize,
-}
-
-// A fault's number.
-fn number_of(fault: MergingFault) -> usize
-    ensures { λ r. ⌜ r ≡ faultNumber fault ⌝ }
-{
-    match fault {
-        MergingFault::First(_) => 51,
-        MergingFault::Second(_) => 52,
-        MergingFault::Symbols(_) => 50,
-        MergingFault::States(_) => 53,
-        MergingFault::Table => 56,
-        MergingFault::Marks => 56,
-    }
-}
-
-// A fault's place.
-fn place_of(fault: MergingFault) -> usize
-    ensures { λ r. ⌜ r ≡ faultPlace fault ⌝ }
-{
-    match fault {
-        MergingFault::First(place) => place,
-        MergingFault::Second(place) => place,
-        MergingFault::Symbols(count) => count,
-        MergingFault::States(count) => count,
-        MergingFault::Table => 0,
-        MergingFault::Marks => 1,
-    }
 }
 
 // The reply of an answer.
@@ -56,8 +29,8 @@ fn merging_of(answer: MergingAnswer) -> Merging
         },
         MergingAnswer::Refused(fault) => Merging {
             states: 0,
-            number: number_of(fault),
-            place: place_of(fault),
+            number: fault_number(fault),
+            place: fault_place(fault),
         },
     }
 }

@@ -2,6 +2,15 @@
 use Prim.Native.Nat.{ℕ, _+_, _*_, _-_, _/_, _%_, _<_, _≤_}
 use native.Mathlib.Nat.{mul-le-mul, mul-pos, mod-lt, div-le-self}
 use native.Mathlib.Omega.{arith}
+use Rattle.merging.specs.declared.pairs.Pair.{Pair}
+
+-- either state of a pair times the number of states
+pub state-bounds : (pair : Pair) (states : ℕ) → pair .first .0 .0 < 4 → pair .second .0 .0 < 4 → states ≤ 4
+    → (pair .first .0 .0 * states ≤ 12) × (pair .second .0 .0 * states ≤ 12)
+state-bounds pair states first second few =
+    let one : pair .first .0 .0 ≤ 3 = omega arith in
+    let two : pair .second .0 .0 ≤ 3 = omega arith in
+    (mul-le-mul one few, mul-le-mul two few)
 
 -- an index into an output table
 pub index-bounds : (states symbol left : ℕ) → states ≤ 4 → symbol ≤ 256 → left < 65536

@@ -61,13 +61,7 @@ fn entry_of(states: States, first: &[u16], second: &[u16], k: usize) -> OutputSt
 }
 
 // Writes the merged table.
-pub fn fill_table(
-    symbols: usize,
-    states: States,
-    first: &[u16],
-    second: &[u16],
-    merged: &mut [u16],
-)
+pub fn fill_table(symbols: usize, states: States, first: &[u16], second: &[u16], merged: &mut [u16])
     requires { ⌜ Few (states .first) (states .second) × (1 ≤ symbols) × (symbols ≤ 16) ⌝ }
     requires { ⌜ Below (states .first) (now first) × Below (states .second) (now second) ⌝ }
     requires { ⌜ tableLength symbols (states .first * states .second) ≤ length (now merged) ⌝ }

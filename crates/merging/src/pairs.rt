@@ -35,8 +35,8 @@ pub fn state_of(states: States, pair: Pair) -> OutputState
     requires { ⌜ (pair .first .0 .0 < 4) × (pair .second .0 .0 < 4) × (states .second ≤ 4) ⌝ }
     ensures { λ r. ⌜ r .0 ≡ pairNumber (states .second) pair ⌝ }
 {
-    let second = states.second as u16;
-    let number = pair.first.0.0 * second + pair.second.0.0;
+    let count = states.second as u16;
+    let number = pair.first.0.0 * count + pair.second.0.0;
     OutputState(number)
 }
 
@@ -46,10 +46,12 @@ pub fn pair_of(states: States, state: OutputState) -> Pair
     ensures { λ r. ⌜ r .first .0 .0 ≡ firstOf (states .second) (state .0) ⌝ }
     ensures { λ r. ⌜ r .second .0 .0 ≡ secondOf (states .second) (state .0) ⌝ }
 {
-    let second = states.second as u16;
+    let count = states.second as u16;
+    let quotient = state.0 / count;
+    let remainder = state.0 % count;
     Pair {
-        first: FirstState(OutputState(state.0 / second)),
-        second: SecondState(OutputState(state.0 % second)),
+        first: FirstState(OutputState(quotient)),
+        second: SecondState(OutputState(remainder)),
     }
 }
 
@@ -148,7 +150,5 @@ pub fn mark_of(states: States, first: &[u16], second: &[u16], state: OutputState
     ensures { λ r. ⌜ r ≡ pairMark (marksOnly (states .first) (now (first .entry))) (marksOnly (states .second) (now (second .entry))) (state .0) ⌝ }
 {
     let pair = pair_of(states, state);
-    let mark = mark_of_first(first, pair.first);
-    let second_mark = mark_of_second(second, pair.second);
-    mark * second_mark
+    mark_of_first(first, pair.first) & mark_of_second(second, pair.second)
 }

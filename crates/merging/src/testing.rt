@@ -8,7 +8,7 @@ ghost use Prim.Native.Nat.{_≤_};
 ghost use lib.Dec.{eqb};
 ghost use Rattle.model.specs.Answers.{refuseIf, _then_};
 ghost use Rattle.merging.specs.Types.{typeOf};
-ghost use Rattle.merging.specs.Answers.{typeTestVerdict, TellsType, testVerdict, typesVerdict, roomVerdict};
+ghost use Rattle.merging.specs.Answers.{faultNumber, faultPlace, typeTestVerdict, TellsType, testVerdict, typesVerdict, roomVerdict};
 
 // Why two types are not merged.
 pub enum MergingFault {
@@ -24,6 +24,34 @@ pub enum MergingFault {
     Table,
     // The buffer for the marks is too short.
     Marks,
+}
+
+// A fault's number.
+pub fn fault_number(fault: MergingFault) -> usize
+    ensures { λ r. ⌜ r ≡ faultNumber fault ⌝ }
+{
+    match fault {
+        MergingFault::First(_) => 51,
+        MergingFault::Second(_) => 52,
+        MergingFault::Symbols(_) => 50,
+        MergingFault::States(_) => 53,
+        MergingFault::Table => 56,
+        MergingFault::Marks => 56,
+    }
+}
+
+// A fault's place.
+pub fn fault_place(fault: MergingFault) -> usize
+    ensures { λ r. ⌜ r ≡ faultPlace fault ⌝ }
+{
+    match fault {
+        MergingFault::First(place) => place,
+        MergingFault::Second(place) => place,
+        MergingFault::Symbols(count) => count,
+        MergingFault::States(count) => count,
+        MergingFault::Table => 0,
+        MergingFault::Marks => 1,
+    }
 }
 
 // Whether an output type has a fault, and the lowest place of one.
@@ -117,12 +145,7 @@ pub fn test_types(
         «second_symbols» (typeOf «second_states» (now («second_table» .entry)) (now («second_marks» .entry))) ⌝ }
 {
     let first = test_first(test_type(symbols, states, table, marks));
-    let second = test_second(test_type(
-        second_symbols,
-        second_states,
-        second_table,
-        second_marks,
-    ));
+    let second = test_second(test_type(second_symbols, second_states, second_table, second_marks));
     let counts = test_symbols(symbols, second_symbols);
     first_failed(first, first_failed(second, counts))
 }

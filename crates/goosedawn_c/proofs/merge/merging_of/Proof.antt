@@ -9,17 +9,17 @@ enum-known-answer c = search needs
 enum-known-answer-2 : tie.Need-enum-known-answer-2
 enum-known-answer-2 c = search needs
 
-number-of-requires : tie.Need-number-of-requires
-number-of-requires c κs = search needs
+fault-number-requires : tie.Need-fault-number-requires
+fault-number-requires c κs = search needs
 
-place-of-requires : tie.Need-place-of-requires
-place-of-requires c κs = search needs
+fault-place-requires : tie.Need-fault-place-requires
+fault-place-requires c κs = search needs
 
 returns : tie.Need-returns
 returns c = rw (c .before .answer .given .1)
 
 returns-2 : tie.Need-returns-2
-returns-2 c = rw (c .before .before .before .answer2 .given .1, c .before .number-of .ensures, c .place-of .ensures)
+returns-2 c = rw (c .before .before .before .answer2 .given .1, c .before .fault-number .ensures, c .fault-place .ensures)
 
 pub merging-of-spec : {M : Type 1} → statement M
 merging-of-spec =
@@ -27,7 +27,7 @@ merging-of-spec =
     (tie.spec
     enum-known-answer
     enum-known-answer-2
-    number-of-requires
-    place-of-requires
+    fault-number-requires
+    fault-place-requires
     returns
     returns-2)

@@ -14,7 +14,9 @@ empty-pair-requires c κs = search needs
 state-of-requires : tie.Need-state-of-requires
 state-of-requires c κs =
     let few = c .before .before .before .before .pre .0 in
-    (omega (arith, c .empty-pair .ensures .0, c .before .before .before .before .pre .1 .0 0, few .fewFirst), omega (arith, c .empty-pair .ensures .1, c .before .before .before .before .pre .1 .1 0, few .fewSecond), few .fewSecond)
+    let one = c .before .before .before .before .pre .1 .0 0 in
+    let two = c .before .before .before .before .pre .1 .1 0 in
+    (omega (arith, c .empty-pair .ensures, one, two, few), omega (arith, c .empty-pair .ensures, one, two, few), few .fewSecond)
 
 returns : tie.Need-returns
 returns c =
