@@ -1,13 +1,13 @@
 // Merging two output types for C and Rust: how many states the merged type has, or why there is none.
 ghost use mathlib.Core.Path.{_≡_};
 ghost use Rattle.model.specs.Merging.{merging};
-ghost use Rattle.merging.specs.Types.{typeOf};
+ghost use Rattle.model.specs.Tables.{typeOf};
 ghost use Rattle.merging.specs.Answers.{mergingAnswer};
 ghost use Rattle.goosedawn_c.specs.Mergers.{mergingReply, MergesInto};
 use merging::MergingAnswer;
 use merging::merge;
-use merging::testing::fault_number;
-use merging::testing::fault_place;
+use merging_tests::fault_number;
+use merging_tests::fault_place;
 
 // How many states the merged type has; 0 where something is refused, and then why. Number and place are 0 where nothing is.
 #[repr(C)]

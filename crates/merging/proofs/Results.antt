@@ -6,7 +6,7 @@ use Prim.Native.Nat.{ℕ, _*_, _≤_}
 use native.Mathlib.Nat.{mul-le-mul}
 use lib.Dec.{eqb}
 use lib.ListN.{length, drop}
-use Rattle.model.specs.Tables.{OutputType}
+use Rattle.model.specs.Tables.{OutputType, typeOf}
 use Rattle.model.specs.Answers.{Verdict, fine, refused, refuseIf, _then_}
 use Rattle.model.specs.Admission.{tableLength}
 use Rattle.model.specs.Merging.{Merged, merged, notMerged, typeVerdict, FaultlessType, mergedType, mergingVerdict, merging, Mergeable}
@@ -14,8 +14,9 @@ use Rattle.model.proofs.Laws.Answers.{then-assoc, then-fine, then-passed, then-
 use Rattle.model.proofs.Laws.Merging.{merging-refused, merging-fine, table-alone, marks-alone}
 use Rattle.model.proofs.Meaning.Merging.{GoodType, faultless-good, type-fine}
 use Rattle.model.proofs.Meaning.MergingAnswers.{fine-mergeable}
-use Rattle.merging.specs.Types.{typeOf, tableOnly, marksOnly, Few}
-use Rattle.merging.specs.Answers.{typesVerdict, roomVerdict, Merges}
+use Rattle.merging_tests.specs.Answers.{typesVerdict, roomVerdict}
+use Rattle.merging_pairs.specs.Types.{tableOnly, marksOnly, Few}
+use Rattle.merging.specs.Answers.{Merges}
 
 module _ (S O : ℕ) (table marks : List ℕ) (S′ O′ : ℕ) (table′ marks′ : List ℕ) (tableBuffer marksBuffer : List ℕ) where
   abbrev Y : OutputType

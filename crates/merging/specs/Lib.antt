@@ -1,3 +1,2 @@
--- Output types of which code is lent a part, and W-206's words for the cases of this crate's answers.
-pub mod Types
+-- W-206's words for the cases of this crate's answer.
 pub mod Answers

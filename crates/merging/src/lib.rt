@@ -1,22 +1,18 @@
 // Merging two output types into one that allows a tree exactly if both do.
 //
-// `merge` tests what is handed in (`testing`), then fills the two buffers for the result (`filling`), entry by entry, by what the two
-// types say of pairs of states (`pairs`). Where anything is refused, nothing is written.
-pub mod filling;
-pub mod pairs;
-pub mod testing;
-
+// `merge` tests what is handed in (crate `merging_tests`), then has the two buffers for the result filled (`merging_pairs`). Where anything
+// is refused, nothing is written.
 ghost use mathlib.Core.Path.{_≡_};
 ghost use Rattle.model.specs.Merging.{merging};
-ghost use Rattle.merging.specs.Types.{typeOf};
+ghost use Rattle.model.specs.Tables.{typeOf};
 ghost use Rattle.merging.specs.Answers.{mergingAnswer, Merges};
-use crate::filling::fill_marks;
-use crate::filling::fill_table;
-use crate::pairs::States;
-use crate::testing::MergingFault;
-use crate::testing::Test;
-use crate::testing::test_room;
-use crate::testing::test_types;
+use merging_pairs::filling::fill_marks;
+use merging_pairs::filling::fill_table;
+use merging_pairs::pairs::States;
+use merging_tests::MergingFault;
+use merging_tests::Test;
+use merging_tests::test_room;
+use merging_tests::test_types;
 
 // What merging answers.
 pub enum MergingAnswer {

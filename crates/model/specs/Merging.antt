@@ -11,7 +11,7 @@ use lib.ListN.{length, getD, take, drop}
 use Rattle.foundation.specs.Tests.{choose}
 use Rattle.foundation.specs.Lists.{tabulated}
 use Rattle.model.specs.Trees.{Tree}
-use Rattle.model.specs.Tables.{Contract, OutputType, emptyState, nextState, markAt}
+use Rattle.model.specs.Tables.{Contract, OutputType, typeOf, emptyState, nextState, markAt}
 use Rattle.model.specs.Facts.{stateOf, factTotal}
 use Rattle.model.specs.Answers.{Verdict, refuseIf, refuseFirst, _then_, pass, given}
 use Rattle.model.specs.Admission.{outside, tableLength, entryWrong, mostFacts}
@@ -95,7 +95,7 @@ pub record Merged : Type 0 where
 
 -- the type that stands at the start of the buffers
 abbrev pub typeIn : (S states : ℕ) (table marks : List ℕ) → OutputType
-typeIn S states table marks = record { states = states; table = take (tableLength S states) table; marks = take states marks }
+typeIn S states table marks = typeOf states (take (tableLength S states) table) (take states marks)
 
 -- a type without a fault: the sizes, lengths and entries of document 01's output types
 pub record FaultlessType (S : ℕ) (Y : OutputType) : Type 0 where

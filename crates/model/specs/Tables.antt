@@ -28,13 +28,17 @@ pub record Contract : Type 0 where
   pub input : InputType
   pub output : OutputType
 
+-- an output type from what is handed in
+abbrev pub typeOf : (states : ℕ) (table marks : List ℕ) → OutputType
+typeOf states table marks = record { states = states; table = table; marks = marks }
+
 -- a contract from what is handed in, in document 01's order
 abbrev pub contract : (S I O : ℕ) (counts inputRows inputMarks outputTable outputMarks nodes rules : List ℕ) → Contract
 contract S I O counts inputRows inputMarks outputTable outputMarks nodes rules =
     record {
       transformation = record { symbols = S; counts = counts; nodes = nodes; rules = rules };
       input = record { states = I; rows = inputRows; marks = inputMarks };
-      output = record { states = O; table = outputTable; marks = outputMarks };
+      output = typeOf O outputTable outputMarks;
     }
 
 -- "(state, symbol, left state, right state)"

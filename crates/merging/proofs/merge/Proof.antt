@@ -2,7 +2,7 @@
 use mathlib.Core.Path.{ap, sym, _∙_}
 use native.Mathlib.Omega.{arith}
 use borrow.Author.Needs.{needs}
-use Rattle.merging.specs.Answers.{testVerdict}
+use Rattle.merging_tests.specs.Answers.{testVerdict}
 use Rattle.merging.proofs.Results.{types-failed, types-known, few-states, room-failed, mergeable, few, good-first, good-second, both-merged}
 use Rattle.merging.proofs.merge.Statement.{statement}
 use Rattle.merging.proofs.merge.Tie as tie

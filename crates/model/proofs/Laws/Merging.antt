@@ -9,7 +9,7 @@ use lib.Dec.{eqb, ltb}
 use lib.ListN.{length, getD, drop}
 use Rattle.foundation.specs.Search.{first, first-at, first-before, first-hit, first-none, first-clear}
 use Rattle.foundation.specs.Lists.{length-tabulated, tabulated-at, tabulated-cong, tabulated-filled}
-use Rattle.model.specs.Tables.{OutputType, markAt}
+use Rattle.model.specs.Tables.{OutputType, typeOf, markAt}
 use Rattle.model.specs.Answers.{Verdict, fine, refused, refuseIf, refuseFirst, _then_, given}
 use Rattle.model.specs.Admission.{outside, tableLength, entryWrong}
 use Rattle.model.specs.Merging.{pairCount, pairEntry, pairMark, mergedType, typeWrong, typePlaces, typeVerdict, Merged, notMerged, bufferShort, mergingVerdict, mergedInto, merging}
@@ -172,22 +172,14 @@ module _ (S : ℕ) (Y Z : OutputType) where
 
 -- the merged table does not hang on the marks, nor the merged marks on the tables
 module _ (S O O′ : ℕ) (t t′ m m′ : List ℕ) where
-  abbrev Y : OutputType
-  Y = record { states = O; table = t; marks = m }
-
-  abbrev Z : OutputType
-  Z = record { states = O′; table = t′; marks = m′ }
-
-  pub table-alone : mergedType S Y Z .table
-      ≡ mergedType S (record { states = O; table = t; marks = [] }) (record { states = O′; table = t′; marks = [] }) .table
+  pub table-alone : mergedType S (typeOf O t m) (typeOf O′ t′ m′) .table ≡ mergedType S (typeOf O t []) (typeOf O′ t′ []) .table
   unfolding mergedType
   table-alone = tabulated-cong (tableLength S (O * O′)) _ _ same
     where
-      same : (k : ℕ) → pairEntry Y Z k ≡ pairEntry (record { states = O; table = t; marks = [] }) (record { states = O′; table = t′; marks = [] }) k
+      same : (k : ℕ) → pairEntry (typeOf O t m) (typeOf O′ t′ m′) k ≡ pairEntry (typeOf O t []) (typeOf O′ t′ []) k
       same zero = refl
       same (suc c) = refl
 
-  pub marks-alone : mergedType S Y Z .marks
-      ≡ mergedType 1 (record { states = O; table = []; marks = m }) (record { states = O′; table = []; marks = m′ }) .marks
+  pub marks-alone : mergedType S (typeOf O t m) (typeOf O′ t′ m′) .marks ≡ mergedType 1 (typeOf O [] m) (typeOf O′ [] m′) .marks
   unfolding mergedType
   marks-alone = refl

@@ -1,12 +1,13 @@
 -- What the answer of merging means: it is refused for the reasons that W-206 lists, and where it is not, the type that stands in the
 -- buffers is the two types merged, and the rest of the buffers is kept.
 use mathlib.Core.Path.{_≡_, refl, ap, sym, subst, _∙_}
-use mathlib.Core.Bool.{Bool, false}
+use mathlib.Core.Bool.{not}
 use mathlib.Core.List.{List, [], _∷_}
 use mathlib.Core.Logic.{_↔_}
 use Prim.Native.Nat.{ℕ, zero, suc, _*_, _<_, _≤_}
 use native.Mathlib.Omega.{arith}
 use borrow.Author.Tests.{ltb-false, le-ltb, eq-eqb}
+use lib.Dec.{eqb, ltb}
 use lib.ListN.{length, drop}
 use lib.Seq.{take-at, drop-at}
 use Rattle.foundation.specs.Search.{first, first-none}
@@ -14,7 +15,7 @@ use Rattle.model.specs.Tables.{OutputType}
 use Rattle.model.specs.Answers.{Verdict, fine, refused, refuseIf, refuseFirst, _then_}
 use Rattle.model.specs.Admission.{tableLength}
 use Rattle.model.specs.Refusals.{RefusesFor}
-use Rattle.model.specs.Merging.{pairCount, mergedType, typeVerdict, merged, notMerged, MergingAnswer, Merged, typeIn, IsMerged, short, mergingVerdict, mergedInto, merging, mergingReasons, Mergeable, MergingMeans}
+use Rattle.model.specs.Merging.{pairCount, mergedType, typeWrong, typePlaces, typeVerdict, merged, notMerged, MergingAnswer, Merged, typeIn, IsMerged, short, mergingVerdict, mergedInto, merging, mergingReasons, Mergeable, MergingMeans}
 use Rattle.model.proofs.Laws.Answers.{refused-not-fine, then-fine, then-passed, refuse-if-fine, refuse-if-passed, refuse-first-fine, refuse-first-none, Numbers, then-numbers, refuse-if-numbers, refuse-first-numbers}
 use Rattle.model.proofs.Laws.Tests.{not-eqb}
 use Rattle.model.proofs.Laws.Merging.{buffers-fit, merging-refused, merging-fine, merged-states, table-long, marks-long}
@@ -34,11 +35,11 @@ module _ (S : ℕ) (Y : OutputType) (S′ : ℕ) (Z : OutputType) (tableBuffer m
   refuses-for : RefusesFor (mergingReasons S Y S′ Z tableBuffer marksBuffer) verdict
   unfolding mergingVerdict typeVerdict
   refuses-for =
-      then-for _ _ _ _ (lowest-for 51 _ _) λ one.
-      then-for _ _ _ _ (lowest-for 52 _ _) λ two.
-      then-for _ _ _ _ (only-for _ _ 50 _ (unequal S S′)) λ same.
-      then-for _ _ _ _ (only-for _ _ 53 _ (less 4 (pairCount Y Z))) λ few.
-      lowest-for 56 _ _
+      then-for _ _ _ _ (lowest-for 51 (typeWrong S Y) (typePlaces Y)) λ one.
+      then-for _ _ _ _ (lowest-for 52 (typeWrong S′ Z) (typePlaces Z)) λ two.
+      then-for _ _ _ _ (only-for (not (eqb S S′)) (S ≡ S′ → ⊥) 50 S′ (unequal S S′)) λ same.
+      then-for _ _ _ _ (only-for (ltb 4 (pairCount Y Z)) (4 < pairCount Y Z) 53 (pairCount Y Z) (less 4 (pairCount Y Z))) λ few.
+      lowest-for 56 (short S Y S′ Z tableBuffer marksBuffer) 2
 
   -- no refusal has the number 0
   pub merging-number : (number place : ℕ) → verdict ≡ refused number place → 1 ≤ number
@@ -101,8 +102,8 @@ module _ (S : ℕ) (Y : OutputType) (S′ : ℕ) (Z : OutputType) (tableBuffer m
   type-written e =
       rw (merging-fine S Y S′ Z tableBuffer marksBuffer e)
       (rw (
-        take-at (mergedType S Y Z .table) (drop (tableLength S (pairCount Y Z)) tableBuffer) (tableLength S (pairCount Y Z)) (table-long S Y Z),
-        take-at (mergedType S Y Z .marks) (drop (pairCount Y Z) marksBuffer) (pairCount Y Z) (marks-long S Y Z),
+        take-at (mergedType S Y Z .table) _ (tableLength S (pairCount Y Z)) (table-long S Y Z),
+        take-at (mergedType S Y Z .marks) _ (pairCount Y Z) (marks-long S Y Z),
         ← merged-states S Y Z,
       )
       refl)

@@ -1,0 +1,2 @@
+-- Output types of which code is lent a part, and what it asks of them.
+pub mod Types

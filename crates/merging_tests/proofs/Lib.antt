@@ -1,0 +1,2 @@
+-- What the tests of two types say.
+pub mod Tests
