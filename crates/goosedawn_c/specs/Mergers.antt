@@ -1,6 +1,6 @@
 -- The reply of merging two output types, and what a caller in C or Rust may conclude from it: the reply and the closing buffers are those
 -- of the definition, of which the model says what they mean.
-use mathlib.Core.Path.{_≡_, refl, ap, sym, subst, _∙_}
+use mathlib.Core.Path.{_≡_, refl, ap, _∙_}
 use mathlib.Core.List.{List}
 use Prim.Native.Nat.{ℕ}
 use native.Mathlib.Omega.{arith}

@@ -2,7 +2,6 @@
 //
 // `merge` tests what is handed in (crate `merging_tests`), then has the two buffers for the result filled (`merging_pairs`). Where anything
 // is refused, nothing is written.
-ghost use mathlib.Core.Path.{_≡_};
 ghost use Rattle.model.specs.Merging.{merging};
 ghost use Rattle.model.specs.Tables.{typeOf};
 ghost use Rattle.merging.specs.Answers.{mergingAnswer, Merges};

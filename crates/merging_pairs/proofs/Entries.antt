@@ -1,5 +1,5 @@
 -- An entry of the merged table, from what the code computes on the way, and how large that is.
-use mathlib.Core.Path.{_≡_, ap, sym, _∙_}
+use mathlib.Core.Path.{_≡_, ap, sym}
 use mathlib.Core.List.{List}
 use Prim.Native.Nat.{ℕ, suc, _+_, _/_, _%_, _*_, _<_, _≤_}
 use native.Mathlib.Nat.{div-le-self}

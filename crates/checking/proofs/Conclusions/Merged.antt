@@ -1,17 +1,16 @@
 -- Three calls, with two output types and with these merged: from what each answer means, since a tree breaks the merged contract exactly if
 -- it breaks one of the two alone.
-use mathlib.Core.Path.{_≡_, ap, _∙_}
-use mathlib.Core.Logic.{_↔_, _⊎_, inl, inr}
+use mathlib.Core.Path.{ap, _∙_}
+use mathlib.Core.Logic.{inl, inr}
 use Prim.Native.Nat.{ℕ}
 use native.Mathlib.Omega.{arith}
 use Rattle.model.specs.Tables.{Contract, OutputType}
-use Rattle.model.specs.Answers.{pass, tree, refusal}
+use Rattle.model.specs.Answers.{refusal}
 use Rattle.model.specs.Meaning.{NoTreeBreaks, OneOfThree, is-pass, is-tree, is-stop}
 use Rattle.model.specs.Merging.{IsMerged, withOutput, MergedContract}
-use Rattle.model.proofs.Meaning.Answers.{pass-not-refusal, tree-not-refusal}
 use Rattle.model.proofs.Meaning.KindCounts.{count-bounds}
 use Rattle.model.proofs.Meaning.MergedChecks.{merged-contract}
-use Rattle.checking.specs.Calls.{Call, LetIn, CallMeans}
+use Rattle.checking.specs.Calls.{Call, CallMeans}
 use Rattle.checking.specs.MergedCalls.{Passed, Answered, HasRoom, CallsMerged}
 use Rattle.checking.proofs.Conclusions.Calls.{call-meaning}
 

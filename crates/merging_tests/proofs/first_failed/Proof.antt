@@ -1,5 +1,5 @@
 -- Behind a test that passed the second tells; a test that failed tells by itself.
-use mathlib.Core.Path.{refl, ap, sym, _∙_}
+use mathlib.Core.Path.{ap, sym}
 use borrow.Author.Needs.{needs}
 use Rattle.model.proofs.Laws.Answers.{then-passed, then-refused}
 use Rattle.merging_tests.specs.Answers.{testVerdict}

@@ -1,5 +1,5 @@
 -- The tests go by place, so the first that fails has the lowest; behind them a search goes through table and marks.
-use mathlib.Core.Path.{_≡_, refl, sym, _∙_}
+use mathlib.Core.Path.{sym, _∙_}
 use native.Mathlib.Omega.{arith}
 use borrow.Author.Needs.{needs}
 use Rattle.model.specs.Tables.{OutputType}

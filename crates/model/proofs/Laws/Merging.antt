@@ -1,19 +1,18 @@
 -- Laws of merging two output types: whether a type has a fault and where, what is refused, and what the buffers hold then.
 use mathlib.Core.Path.{_≡_, refl, sym, _∙_}
-use mathlib.Core.Bool.{Bool, true, false, not}
+use mathlib.Core.Bool.{Bool, true, false}
 use mathlib.Core.List.{List, [], _++_}
 use Prim.Native.Nat.{ℕ, zero, suc, _+_, _*_, _-_, _<_, _≤_}
 use native.Mathlib.Omega.{arith}
 use borrow.Author.Tests.{le-ltb, lt-ltb, eq-eqb, ne-eqb}
-use lib.Dec.{eqb, ltb}
 use lib.ListN.{length, getD, drop}
 use Rattle.foundation.specs.Search.{first, first-at, first-before, first-hit, first-none, first-clear}
 use Rattle.foundation.specs.Lists.{length-tabulated, tabulated-at, tabulated-cong, tabulated-filled}
 use Rattle.model.specs.Tables.{OutputType, typeOf, markAt}
-use Rattle.model.specs.Answers.{Verdict, fine, refused, refuseIf, refuseFirst, _then_, given}
+use Rattle.model.specs.Answers.{Verdict, fine, refused, refuseFirst}
 use Rattle.model.specs.Admission.{outside, tableLength, entryWrong}
-use Rattle.model.specs.Merging.{pairCount, pairEntry, pairMark, mergedType, typeWrong, typePlaces, typeVerdict, Merged, notMerged, bufferShort, mergingVerdict, mergedInto, merging}
-use Rattle.model.proofs.Laws.Answers.{then-passed, then-refused, refuse-if-passed, refuse-if-refused, refuse-first-at, refuse-first-none, given-fine, given-refused}
+use Rattle.model.specs.Merging.{pairCount, pairEntry, pairMark, mergedType, typeWrong, typePlaces, typeVerdict, notMerged, bufferShort, mergingVerdict, mergedInto, merging}
+use Rattle.model.proofs.Laws.Answers.{refuse-first-at, refuse-first-none, given-fine, given-refused}
 
 -- A fault of one type
 
@@ -170,16 +169,15 @@ module _ (S : ℕ) (Y Z : OutputType) where
   unfolding mergedType
   merged-mark q h = tabulated-at (pairCount Y Z) (pairMark Y Z) q h
 
--- the merged table does not hang on the marks, nor the merged marks on the tables
-module _ (S O O′ : ℕ) (t t′ m m′ : List ℕ) where
-  pub table-alone : mergedType S (typeOf O t m) (typeOf O′ t′ m′) .table ≡ mergedType S (typeOf O t []) (typeOf O′ t′ []) .table
+  -- the merged table does not hang on the marks, nor the merged marks on the tables
+  pub table-alone : mergedType S Y Z .table ≡ mergedType S (typeOf (Y .states) (Y .table) []) (typeOf (Z .states) (Z .table) []) .table
   unfolding mergedType
-  table-alone = tabulated-cong (tableLength S (O * O′)) _ _ same
+  table-alone = tabulated-cong (tableLength S (pairCount Y Z)) _ _ same
     where
-      same : (k : ℕ) → pairEntry (typeOf O t m) (typeOf O′ t′ m′) k ≡ pairEntry (typeOf O t []) (typeOf O′ t′ []) k
+      same : (k : ℕ) → pairEntry Y Z k ≡ pairEntry (typeOf (Y .states) (Y .table) []) (typeOf (Z .states) (Z .table) []) k
       same zero = refl
       same (suc c) = refl
 
-  pub marks-alone : mergedType S (typeOf O t m) (typeOf O′ t′ m′) .marks ≡ mergedType 1 (typeOf O [] m) (typeOf O′ [] m′) .marks
+  pub marks-alone : mergedType S Y Z .marks ≡ mergedType 1 (typeOf (Y .states) [] (Y .marks)) (typeOf (Z .states) [] (Z .marks)) .marks
   unfolding mergedType
   marks-alone = refl

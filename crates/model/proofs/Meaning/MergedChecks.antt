@@ -1,8 +1,7 @@
 -- The merged contract: a tree breaks it exactly if it breaks one of the two alone; so, given room, it passes exactly if each alone does. It
 -- is admitted where the first is and the pairs make no more than 256 facts.
-use mathlib.Core.Path.{_≡_, refl, ap, _∙_}
-use mathlib.Core.Bool.{Bool, true, false}
-use mathlib.Core.List.{[]}
+use mathlib.Core.Path.{_≡_, refl}
+use mathlib.Core.Bool.{Bool, false}
 use mathlib.Core.Logic.{_↔_, _⊎_, inl, inr}
 use Prim.Native.Nat.{ℕ, zero, suc, _*_, _+_, _<_, _≤_}
 use native.Mathlib.Omega.{arith}
@@ -13,7 +12,6 @@ use lib.ListN.{length}
 use Rattle.foundation.specs.Search.{first, first-none}
 use Rattle.model.specs.Trees.{Tree}
 use Rattle.model.specs.Tables.{Contract, OutputType, markAt}
-use Rattle.model.specs.Outputs.{Output}
 use Rattle.model.specs.Facts.{stateOf, factTotal}
 use Rattle.model.specs.Answers.{fine, refuseFirst, _then_}
 use Rattle.model.specs.Admission.{sizeWrong, lengthWrong, entryWrong, mostFacts, sizes, lengths, inputRows, entries, counts, nodes, rules, facts, admission}

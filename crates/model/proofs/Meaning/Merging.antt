@@ -51,7 +51,7 @@ product-one zero b h k = (λ e. absurd (omega arith), λ e. absurd (omega (arith
 product-one (suc zero) b h k = (λ e. (refl, omega arith), λ e. omega (arith, e .1))
 product-one (suc (suc a)) b h k = absurd (omega arith)
 
-pub product-small : (a b : ℕ) → a ≤ 1 → b ≤ 1 → a * b ≤ 1
+product-small : (a b : ℕ) → a ≤ 1 → b ≤ 1 → a * b ≤ 1
 product-small zero b h k = omega arith
 product-small (suc zero) b h k = omega arith
 product-small (suc (suc a)) b h k = absurd (omega arith)

@@ -1,22 +1,21 @@
 -- What the answer of merging means: it is refused for the reasons that W-206 lists, and where it is not, the type that stands in the
 -- buffers is the two types merged, and the rest of the buffers is kept.
-use mathlib.Core.Path.{_≡_, refl, ap, sym, subst, _∙_}
+use mathlib.Core.Path.{_≡_, refl, ap, sym, _∙_}
 use mathlib.Core.Bool.{not}
 use mathlib.Core.List.{List, [], _∷_}
-use mathlib.Core.Logic.{_↔_}
-use Prim.Native.Nat.{ℕ, zero, suc, _*_, _<_, _≤_}
+use Prim.Native.Nat.{ℕ, _<_, _≤_}
 use native.Mathlib.Omega.{arith}
 use borrow.Author.Tests.{ltb-false, le-ltb, eq-eqb}
 use lib.Dec.{eqb, ltb}
 use lib.ListN.{length, drop}
 use lib.Seq.{take-at, drop-at}
-use Rattle.foundation.specs.Search.{first, first-none}
+use Rattle.foundation.specs.Search.{first}
 use Rattle.model.specs.Tables.{OutputType}
-use Rattle.model.specs.Answers.{Verdict, fine, refused, refuseIf, refuseFirst, _then_}
+use Rattle.model.specs.Answers.{Verdict, fine, refused, _then_}
 use Rattle.model.specs.Admission.{tableLength}
 use Rattle.model.specs.Refusals.{RefusesFor}
-use Rattle.model.specs.Merging.{pairCount, mergedType, typeWrong, typePlaces, typeVerdict, merged, notMerged, MergingAnswer, Merged, typeIn, IsMerged, short, mergingVerdict, mergedInto, merging, mergingReasons, Mergeable, MergingMeans}
-use Rattle.model.proofs.Laws.Answers.{refused-not-fine, then-fine, then-passed, refuse-if-fine, refuse-if-passed, refuse-first-fine, refuse-first-none, Numbers, then-numbers, refuse-if-numbers, refuse-first-numbers}
+use Rattle.model.specs.Merging.{pairCount, mergedType, typeWrong, typePlaces, typeVerdict, merged, notMerged, Merged, typeIn, IsMerged, short, mergingVerdict, merging, mergingReasons, Mergeable, MergingMeans}
+use Rattle.model.proofs.Laws.Answers.{then-fine, then-passed, refuse-if-fine, refuse-if-passed, refuse-first-fine, then-numbers, refuse-if-numbers, refuse-first-numbers}
 use Rattle.model.proofs.Laws.Tests.{not-eqb}
 use Rattle.model.proofs.Laws.Merging.{buffers-fit, merging-refused, merging-fine, merged-states, table-long, marks-long}
 use Rattle.model.proofs.Meaning.Verdicts.{then-for, only-for, lowest-for, less, unequal}

@@ -1,10 +1,8 @@
 -- Every mark passed is right, and the buffer is as it was behind them; the measure is the marks left.
-use mathlib.Core.Path.{_≡_, refl, sym, _∙_}
-use Prim.Native.Nat.{_-_, _*_, _<_, _≤_}
+use mathlib.Core.Path.{_≡_, refl}
+use Prim.Native.Nat.{_-_, _*_, _≤_}
 use native.Mathlib.Omega.{arith}
-use lib.ListN.{length, getD, length-set}
-use Rattle.model.specs.Tables.{OutputType}
-use Rattle.model.specs.Merging.{pairCount, pairMark}
+use Rattle.model.specs.Merging.{pairMark}
 use Rattle.model.proofs.Laws.Merging.{marks-filled}
 use Rattle.merging_pairs.specs.Types.{marksOnly}
 use Rattle.merging_pairs.proofs.Written.{Filled, filled-none, filled-more}

@@ -1,9 +1,7 @@
 -- Every entry passed is right, and the buffer is as it was behind them; the measure is the entries left.
-use mathlib.Core.Path.{_≡_, refl, sym, _∙_}
-use Prim.Native.Nat.{_-_, _*_, _<_, _≤_}
+use mathlib.Core.Path.{_≡_}
+use Prim.Native.Nat.{_-_, _*_, _≤_}
 use native.Mathlib.Omega.{arith}
-use lib.ListN.{length, getD, length-set}
-use Rattle.model.specs.Tables.{OutputType}
 use Rattle.model.specs.Admission.{tableLength}
 use Rattle.model.specs.Merging.{pairEntry}
 use Rattle.model.proofs.Laws.Merging.{table-filled}

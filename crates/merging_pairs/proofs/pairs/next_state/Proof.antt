@@ -1,6 +1,5 @@
 -- Few states keep the index small, and a table is read as 0 past its end.
-use Prim.Native.Nat.{_≤_, _-_, _*_, _+_}
-use native.Mathlib.Nat.{mul-le-mul}
+use Prim.Native.Nat.{_-_}
 use native.Mathlib.Omega.{arith}
 use Rattle.merging_pairs.proofs.Bounds.{index-bounds}
 use borrow.Author.Needs.{needs}
