@@ -195,8 +195,11 @@ module _ (S : ℕ) (Y : OutputType) where
     faultless-fine : FaultlessType S Y → typeVerdict number S Y ≡ fine
     faultless-fine f =
         no-fault S Y number shaped _ refl
-        (omega (arith, first-none (entryWrong (Y .states) [] (Y .table) (Y .marks)) (length (Y .table) + length (Y .marks)) (λ k h. entries-clear (Y .states) [] (Y .table) (Y .marks) (λ j l. absurd (omega arith)) (f .entries) (f .marks) k (omega arith))))
+        (omega (arith, first-none (entryWrong (Y .states) [] (Y .table) (Y .marks)) (length (Y .table) + length (Y .marks)) clear))
       where
+        clear : (k : ℕ) → k < length (Y .table) + length (Y .marks) → entryWrong (Y .states) [] (Y .table) (Y .marks) k ≡ false
+        clear k h = entries-clear (Y .states) [] (Y .table) (Y .marks) (λ j l. absurd (omega arith)) (f .entries) (f .marks) k (omega arith)
+
         shaped : Shaped S Y
         shaped =
             record {
