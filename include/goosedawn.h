@@ -183,7 +183,7 @@ typedef struct {
  * The first refusal that applies, in this order, with its lowest place:
  *   51  a fault in the first type: 0 symbols, 1 states, 2 the table's length, 3 the marks' length, otherwise 4 plus the
  *       index, through table and marks laid end to end, of an entry that is no state or a mark above 1
- *   52  the same in the second type, which is only looked at if the first is good
+ *   52  the same in the second type, told only if the first is good
  *   50  the types' symbols differ: the second's
  *   53  there would be more than 4 states: how many
  *   56  a buffer is shorter than what is to be written: 0 the merged table, 1 the merged marks

@@ -1,5 +1,6 @@
-//! Two output types merged, by the model and by the proved library: answers worked by hand, every refusal, and what merging
-//! is for. The merged type allows a tree exactly if both do, and a contract with it passes exactly if it passes with each.
+//! Two output types merged: answers worked by hand and every refusal, by the model and by the proved library; and what merging
+//! is for, by the model, with which the library is compared elsewhere. The merged type allows a tree exactly if both do, and a
+//! contract with it passes exactly if it passes with each.
 
 use goosedawn::contract::{Contract, OutputTables, OutputType};
 use goosedawn::engine::{Answer, Engine, Refusal};
@@ -218,7 +219,7 @@ fn buffers_that_are_too_short() {
     refuses_in([2, 0], [ANY, ANY], (56, 1));
 }
 
-/// The type that two good ones with at most four pairs of states merge to, with the answer.
+/// The type that two good ones with at most four pairs of states merge to.
 fn merged(first: OutputType<'_>, second: OutputType<'_>) -> OutputTables {
     let states = first.states * second.states;
     let (mut table, mut marks) = (vec![BEFORE; 1 + (first.symbols - 1) * states * states], vec![BEFORE; states]);
@@ -247,7 +248,7 @@ fn allows(of: OutputType<'_>, document: &[u16]) -> bool {
     of.marks[state(of, document)] == 1
 }
 
-/// Sees that a tree has the state of the pair, and is allowed exactly if both types allow it; tells whether both do.
+/// Sees that a tree has the state of the pair, and is allowed exactly if both types allow it; tells whether each does.
 fn allowed_as_by_both(
     first: OutputType<'_>,
     second: OutputType<'_>,

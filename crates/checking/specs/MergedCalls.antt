@@ -15,6 +15,10 @@ use Rattle.checking.specs.Calls.{Call, LetIn}
 abbrev pub Passed : {C : Contract} {L : ℕ} → Call C L → Type 0
 Passed call = (n : ℕ) × (call .answer ≡ pass n)
 
+-- "each alone does"
+abbrev pub EachPassed : {C D : Contract} {K L : ℕ} → Call C K → Call D L → Type 0
+EachPassed first second = Passed first × Passed second
+
 -- a pass or a tree: the check is not refused and does not stop at its limit
 abbrev pub Answered : {C : Contract} {L : ℕ} → Call C L → Type 0
 Answered call = (number place : ℕ) → call .answer ≡ refusal number place → ⊥
@@ -32,7 +36,7 @@ pub record CallsMerged (C : Contract) {Y Z M : OutputType} {K L N : ℕ}
   -- "Given room for all three checks, the merged contract passes exactly if each alone does.": room gives an answer, and three answers are
   -- enough
   pub roomAnswers : (HasRoom first → Answered first) × (HasRoom second → Answered second) × (HasRoom both → Answered both)
-  pub passesExactly : Answered first → Answered second → Answered both → Passed both ↔ (Passed first × Passed second)
+  pub passesExactly : Answered first → Answered second → Answered both → Passed both ↔ EachPassed first second
   -- without room: a pass of the merged contract speaks of each alone, whether or not its own check comes to an end
   pub passKeeps : Passed both → NoTreeBreaks (withOutput C Y) × NoTreeBreaks (withOutput C Z)
   -- passes of each alone leave the merged check nothing to show

@@ -1,5 +1,5 @@
 -- The reply of merging two output types, and what a caller in C or Rust may conclude from it: the reply and the closing buffers are those
--- of the definition, of which the model says what they mean.
+-- of the definition, of which the model says what they mean; and a check with the type in these buffers is one of the merged contract.
 use mathlib.Core.Path.{_≡_, refl, ap, _∙_}
 use mathlib.Core.List.{List}
 use Prim.Native.Nat.{ℕ}
@@ -7,11 +7,14 @@ use native.Mathlib.Omega.{arith}
 use borrow.Author.Tests.{ne-eqb}
 use lib.Dec.{eqb}
 use Rattle.foundation.specs.Tests.{choose}
-use Rattle.model.specs.Tables.{OutputType}
+use Rattle.model.specs.Tables.{Contract, OutputType}
 use Rattle.model.specs.Answers.{Verdict, fine, refused}
-use Rattle.model.specs.Merging.{MergingAnswer, merged, notMerged, Merged, mergingVerdict, merging, MergingMeans}
+use Rattle.model.specs.Merging.{MergingAnswer, merged, notMerged, Merged, typeIn, mergingVerdict, merging, MergingMeans, withOutput}
 use Rattle.model.proofs.Laws.Merging.{merging-refused, merging-fine}
 use Rattle.model.proofs.Meaning.MergingAnswers.{merging-number, merging-means}
+use Rattle.checking.specs.Calls.{Call}
+use Rattle.checking.specs.MergedCalls.{CallsMerged}
+use Rattle.checking.proofs.Conclusions.Merged.{merged-calls}
 use Rattle.goosedawn_c.specs.declared.merge.Merging.{Merging}
 
 abbrev pub mergingReply : MergingAnswer → Merging
@@ -47,3 +50,12 @@ module _ (S : ℕ) (Y : OutputType) (S′ : ℕ) (Z : OutputType) (tableBuffer m
       → MergingMeans S Y S′ Z tableBuffer marksBuffer (record { answer = answerOfMerging r; table = table; marks = marks })
   merge-call r table marks promise =
       rw (ap answerOfMerging (promise .0) ∙ answer-of-merging, promise .1, promise .2) (merging-means S Y S′ Z tableBuffer marksBuffer)
+
+  -- with what `goosedawn_check` promises of three calls (`callOf`): the last of them with the type that stands in the buffers
+  pub merge-and-check : (r : Merging) (table marks : List ℕ) → MergesInto r table marks result
+      → (n : ℕ) → answerOfMerging r ≡ merged n
+      → (C : Contract) → S ≡ C .transformation .symbols
+      → {K L N : ℕ} (first : Call (withOutput C Y) K) (second : Call (withOutput C Z) L) (both : Call (withOutput C (typeIn S n table marks)) N)
+      → CallsMerged C first second both
+  merge-and-check r table marks promise n told C symbols first second both =
+      merged-calls (rw symbols at (merge-call r table marks promise .isMerged n told)) first second both

@@ -16,8 +16,8 @@ module _ (f : ℕ → ℕ) (before : List ℕ) where
   pub filled-none : Filled f before before 0
   filled-none = record { long = refl; right = λ j h. absurd (omega arith); kept = λ j h. refl }
 
-  pub filled-more : (now : List ℕ) (k v : ℕ) → k < length now → Filled f before now k → v ≡ f k → Filled f before (set now k v) (k + 1)
-  filled-more now k v h filled here =
+  pub filled-next : (now : List ℕ) (k v : ℕ) → k < length now → Filled f before now k → v ≡ f k → Filled f before (set now k v) (k + 1)
+  filled-next now k v h filled here =
       record {
         long = length-set now k v ∙ filled .long;
         right = lists.filled-more f 0 now k v h (filled .right) here;

@@ -42,7 +42,7 @@ module _ (Y Z : OutputType) where
       (nextState Z symbol (secondOf (Z .states) left) (secondOf (Z .states) right))
 
   -- "First the state of symbol 0; then for each symbol from 1, each left state, each right state, the resulting state."
-  abbrev pub pairEntry : ℕ → ℕ
+  unfoldable pub pairEntry : ℕ → ℕ
   pairEntry zero = pairState (Z .states) (emptyState Y) (emptyState Z)
   pairEntry (suc c) = pairNext (1 + c / (pairCount * pairCount)) (c / pairCount % pairCount) (c % pairCount)
 
@@ -109,7 +109,13 @@ pub record FaultlessType (S : ℕ) (Y : OutputType) : Type 0 where
 -- M is Y and Z merged
 pub record IsMerged (S : ℕ) (Y Z M : OutputType) : Type 0 where
   pub states : M .states ≡ Y .states * Z .states
-  -- "state (m, n) is m × (second's O) + n": of every tree
+  -- "state (m, n) is m × (second's O) + n": what M gives nothing, and a symbol over any two pairs, and which pairs it accepts
+  pub nothing : emptyState M ≡ emptyState Y * Z .states + emptyState Z
+  pub over : (s m n m′ n′ : ℕ) → 1 ≤ s → m < Y .states → n < Z .states → m′ < Y .states → n′ < Z .states
+      → nextState M s (m * Z .states + n) (m′ * Z .states + n′) ≡ nextState Y s m m′ * Z .states + nextState Z s n n′
+  pub accepts : (m n : ℕ) → m < Y .states → n < Z .states
+      → (markAt (M .marks) (m * Z .states + n) ≡ 1) ↔ ((markAt (Y .marks) m ≡ 1) × (markAt (Z .marks) n ≡ 1))
+  -- so the state of every tree is the pair of its states
   pub pairs : (u : Tree) → stateOf M u ≡ stateOf Y u * Z .states + stateOf Z u
   -- "one that allows a tree exactly if both do"
   pub allows : (u : Tree) → TypeAllows M u ↔ (TypeAllows Y u × TypeAllows Z u)
@@ -117,8 +123,8 @@ pub record IsMerged (S : ℕ) (Y Z M : OutputType) : Type 0 where
 
 -- two types, each with its symbol count, and the buffers for the result
 module _ (S : ℕ) (Y : OutputType) (S′ : ℕ) (Z : OutputType) (tableBuffer marksBuffer : List ℕ) where
-  abbrev pub short : ℕ → Bool
-  short = bufferShort S (pairCount Y Z) (length tableBuffer) (length marksBuffer)
+  abbrev pub buffersShort : ℕ → Bool
+  buffersShort = bufferShort S (pairCount Y Z) (length tableBuffer) (length marksBuffer)
 
   -- "51 a fault in the first type, 52 in the second ..; then 50 differing symbol counts (the second's), 53 more than 4 states (the
   -- product), 56 .."
@@ -128,7 +134,7 @@ module _ (S : ℕ) (Y : OutputType) (S′ : ℕ) (Z : OutputType) (tableBuffer m
       then typeVerdict 52 S′ Z
       then refuseIf (not (eqb S S′)) 50 S′
       then refuseIf (ltb 4 (pairCount Y Z)) 53 (pairCount Y Z)
-      then refuseFirst 56 short 2
+      then refuseFirst 56 buffersShort 2
 
   -- table and marks stand at the start of their buffers, and the rest is kept
   abbrev pub mergedInto : Merged
@@ -150,7 +156,7 @@ module _ (S : ℕ) (Y : OutputType) (S′ : ℕ) (Z : OutputType) (tableBuffer m
       ∷ lowest 52 (typeWrong S′ Z) (typePlaces Z)
       ∷ only 50 (S ≡ S′ → ⊥) S′
       ∷ only 53 (4 < Y .states * Z .states) (Y .states * Z .states)
-      ∷ lowest 56 short 2
+      ∷ lowest 56 buffersShort 2
       ∷ []
 
   -- when two types are merged
@@ -186,6 +192,10 @@ pub record Room (C : Contract) (lent : Lent) : Type 0 where
 abbrev pub Passes : Contract → Lent → Type 0
 Passes C lent = (n : ℕ) × (checkOf C lent .answer ≡ pass n)
 
+-- "each alone does"
+abbrev pub EachPasses : Contract → (Y Z : OutputType) (first second : Lent) → Type 0
+EachPasses C Y Z first second = Passes (withOutput C Y) first × Passes (withOutput C Z) second
+
 -- one transformation and one input type, with output types Y and Z and with M, which is Y and Z merged
 pub record MergedContract (C : Contract) (Y Z M : OutputType) : Type 0 where
   -- a tree breaks the merged contract exactly if it breaks one of the two alone
@@ -193,7 +203,7 @@ pub record MergedContract (C : Contract) (Y Z M : OutputType) : Type 0 where
   pub keepsExactly : NoTreeBreaks (withOutput C M) ↔ (NoTreeBreaks (withOutput C Y) × NoTreeBreaks (withOutput C Z))
   -- "Given room for all three checks, the merged contract passes exactly if each alone does."
   pub passesExactly : (first second both : Lent) → Room (withOutput C Y) first → Room (withOutput C Z) second → Room (withOutput C M) both
-      → Passes (withOutput C M) both ↔ (Passes (withOutput C Y) first × Passes (withOutput C Z) second)
+      → Passes (withOutput C M) both ↔ EachPasses C Y Z first second
   -- what is admitted stays admitted, unless the pairs make too many facts
   pub staysAdmitted : Admitted (withOutput C Y) → factTotal (Y .states * Z .states) (C .transformation .counts) ≤ mostFacts
       → Admitted (withOutput C M)

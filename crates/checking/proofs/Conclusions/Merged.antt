@@ -11,7 +11,7 @@ use Rattle.model.specs.Merging.{IsMerged, withOutput, MergedContract}
 use Rattle.model.proofs.Meaning.KindCounts.{count-bounds}
 use Rattle.model.proofs.Meaning.MergedChecks.{merged-contract}
 use Rattle.checking.specs.Calls.{Call, CallMeans}
-use Rattle.checking.specs.MergedCalls.{Passed, Answered, HasRoom, CallsMerged}
+use Rattle.checking.specs.MergedCalls.{Passed, EachPassed, Answered, HasRoom, CallsMerged}
 use Rattle.checking.proofs.Conclusions.Calls.{call-meaning}
 
 module _ {C : Contract} {L : ℕ} (call : Call C L) where
@@ -37,6 +37,15 @@ module _ {C : Contract} {L : ℕ} (call : Call C L) where
       go (is-tree j e) = let shown = means .treeLeast j e in absurd (keeps _ (shown .over) (shown .breaking))
       go (is-stop e) = absurd (answered 10 L e)
 
+-- passes of each alone make one of the merged contract, if that is answered
+each-passes : (C : Contract) {Y Z M : OutputType} {K L N : ℕ} → IsMerged (C .transformation .symbols) Y Z M
+    → (first : Call (withOutput C Y) K) (second : Call (withOutput C Z) L) (both : Call (withOutput C M) N)
+    → Answered both
+    → EachPassed first second
+    → Passed both
+each-passes C {Y} {Z} {M} merged first second both answered (y, z) =
+    answered-passes both answered (merged-contract C Y Z M merged .keepsExactly .1 (pass-keeps first y, pass-keeps second z))
+
 pub merged-calls : {C : Contract} {Y Z M : OutputType} {K L N : ℕ} → IsMerged (C .transformation .symbols) Y Z M
     → (first : Call (withOutput C Y) K) (second : Call (withOutput C Z) L) (both : Call (withOutput C M) N)
     → CallsMerged C first second both
@@ -45,7 +54,7 @@ merged-calls {C} {Y} {Z} {M} merged first second both =
       roomAnswers = (room-answers first, room-answers second, room-answers both);
       passesExactly = λ one two three. (
         λ passed. let (y, z) = contract .keepsExactly .0 (pass-keeps both passed) in (answered-passes first one y, answered-passes second two z),
-        λ (y, z). answered-passes both three (contract .keepsExactly .1 (pass-keeps first y, pass-keeps second z)),
+        each-passes C merged first second both three,
       );
       passKeeps = λ passed. contract .keepsExactly .0 (pass-keeps both passed);
       keepsPass = λ y z. contract .keepsExactly .1 (pass-keeps first y, pass-keeps second z);

@@ -2,16 +2,16 @@
 use mathlib.Core.Path.{_≡_, refl, sym, _∙_}
 use mathlib.Core.Bool.{Bool, true, false}
 use mathlib.Core.List.{List, [], _++_}
-use Prim.Native.Nat.{ℕ, zero, suc, _+_, _-_, _<_, _≤_}
+use Prim.Native.Nat.{ℕ, zero, suc, _+_, _*_, _-_, _/_, _%_, _<_, _≤_}
 use native.Mathlib.Omega.{arith}
 use borrow.Author.Tests.{le-ltb, lt-ltb, eq-eqb, ne-eqb}
 use lib.ListN.{length, getD, drop}
 use Rattle.foundation.specs.Search.{first, first-at, first-before, first-hit, first-none, first-clear}
 use Rattle.foundation.specs.Lists.{length-tabulated, tabulated-at, tabulated-cong, tabulated-filled}
-use Rattle.model.specs.Tables.{OutputType, typeOf, markAt}
+use Rattle.model.specs.Tables.{OutputType, typeOf, emptyState, markAt}
 use Rattle.model.specs.Answers.{Verdict, fine, refused, refuseFirst}
 use Rattle.model.specs.Admission.{outside, tableLength, entryWrong}
-use Rattle.model.specs.Merging.{pairCount, pairEntry, pairMark, mergedType, typeWrong, typePlaces, typeVerdict, notMerged, bufferShort, mergingVerdict, mergedInto, merging}
+use Rattle.model.specs.Merging.{pairState, pairCount, pairNext, pairEntry, pairMark, mergedType, typeWrong, typePlaces, typeVerdict, notMerged, bufferShort, mergingVerdict, mergedInto, merging}
 use Rattle.model.proofs.Laws.Answers.{refuse-first-at, refuse-first-none, given-fine, given-refused}
 
 -- A fault of one type
@@ -37,7 +37,7 @@ module _ (S : ℕ) (Y : OutputType) where
     pub tableLong : length (Y .table) ≡ tableLength S (Y .states)
     pub marksLong : length (Y .marks) ≡ Y .states
 
-  pub shaped-clear : Shaped → (n : ℕ) → ((k : ℕ) → k < n → entryBad k ≡ false) → (j : ℕ) → j < 4 + n → typeWrong S Y j ≡ false
+  shaped-clear : Shaped → (n : ℕ) → ((k : ℕ) → k < n → entryBad k ≡ false) → (j : ℕ) → j < 4 + n → typeWrong S Y j ≡ false
   shaped-clear s n clear zero h = s .symbols
   shaped-clear s n clear (suc zero) h = s .states
   shaped-clear s n clear (suc (suc zero)) h = rw (eq-eqb _ _ (s .tableLong))
@@ -132,6 +132,18 @@ module _ (S : ℕ) (Y : OutputType) (S′ : ℕ) (Z : OutputType) (tableBuffer m
   unfolding merging
   merging-fine e = given-fine _ (mergedInto S Y S′ Z tableBuffer marksBuffer) _ e
 
+-- An entry of the merged table
+module _ (Y Z : OutputType) where
+  -- what both types give nothing, and then a symbol over two pairs
+  pub entry-nothing : (k : ℕ) → k ≡ 0 → pairEntry Y Z k ≡ pairState (Z .states) (emptyState Y) (emptyState Z)
+  unfolding pairEntry
+  entry-nothing k e = rw e
+
+  pub entry-over : (k c : ℕ) → k ≡ suc c
+      → pairEntry Y Z k ≡ pairNext Y Z (1 + c / (pairCount Y Z * pairCount Y Z)) (c / pairCount Y Z % pairCount Y Z) (c % pairCount Y Z)
+  unfolding pairEntry
+  entry-over k c e = rw e
+
 -- What is written
 module _ (S : ℕ) (Y Z : OutputType) where
   -- a buffer whose first entries are those of the merged table, and whose others are as they were
@@ -171,7 +183,7 @@ module _ (S : ℕ) (Y Z : OutputType) where
 
   -- the merged table does not hang on the marks, nor the merged marks on the tables
   pub table-alone : mergedType S Y Z .table ≡ mergedType S (typeOf (Y .states) (Y .table) []) (typeOf (Z .states) (Z .table) []) .table
-  unfolding mergedType
+  unfolding mergedType pairEntry
   table-alone = tabulated-cong (tableLength S (pairCount Y Z)) _ _ same
     where
       same : (k : ℕ) → pairEntry Y Z k ≡ pairEntry (typeOf (Y .states) (Y .table) []) (typeOf (Z .states) (Z .table) []) k

@@ -17,7 +17,7 @@ use Rattle.model.specs.Answers.{fine, refuseFirst, _then_}
 use Rattle.model.specs.Admission.{sizeWrong, lengthWrong, entryWrong, mostFacts, sizes, lengths, inputRows, entries, counts, nodes, rules, facts, admission}
 use Rattle.model.specs.Claims.{TypeAllows, Takes, Breaks, Admitted}
 use Rattle.model.specs.Meaning.{TreeOf, NoTreeBreaks, CheckMeans, Lent, checkOf, OneOfThree, is-pass, is-tree, is-stop}
-use Rattle.model.specs.Merging.{IsMerged, withOutput, Room, Passes, MergedContract}
+use Rattle.model.specs.Merging.{IsMerged, withOutput, Room, Passes, EachPasses, MergedContract}
 use Rattle.model.proofs.Laws.Answers.{refuse-if-passed, refuse-first-fine, refuse-first-none}
 use Rattle.model.proofs.Laws.Tests.{not-outside}
 use Rattle.model.proofs.Laws.Admitted.{Parts, parts, entries-clear}
@@ -73,15 +73,16 @@ module _ (C : Contract) (Y Z M : OutputType) (both : IsMerged (C .transformation
       neither t over y z (inl b) = y t over b
       neither t over y z (inr b) = z t over b
 
-  merged-passes : (first second both : Lent) → Room (withOutput C Y) first → Room (withOutput C Z) second → Room (withOutput C M) both
-      → Passes (withOutput C M) both ↔ (Passes (withOutput C Y) first × Passes (withOutput C Z) second)
-  merged-passes first second third one two three =
-      let p = room-passes (withOutput C Y) first one in
-      let q = room-passes (withOutput C Z) second two in
-      let r = room-passes (withOutput C M) third three in (
-        λ a. let (y, z) = merged-keeps .0 (r .0 a) in (p .1 y, q .1 z),
-        λ a. r .1 (merged-keeps .1 (p .0 (a .0), q .0 (a .1))),
-      )
+  module _ (first second third : Lent) (one : Room (withOutput C Y) first) (two : Room (withOutput C Z) second) (three : Room (withOutput C M) third) where
+    each-passes : EachPasses C Y Z first second → Passes (withOutput C M) third
+    each-passes (y, z) =
+        room-passes (withOutput C M) third three .1
+        (merged-keeps .1 (room-passes (withOutput C Y) first one .0 y, room-passes (withOutput C Z) second two .0 z))
+
+    passes-each : Passes (withOutput C M) third → EachPasses C Y Z first second
+    passes-each m =
+        let (y, z) = merged-keeps .0 (room-passes (withOutput C M) third three .0 m) in
+        (room-passes (withOutput C Y) first one .1 y, room-passes (withOutput C Z) second two .1 z)
 
   -- admission of the merged contract, part by part: what does not hang on the output type is as with Y
   module _ (good : Admitted (withOutput C Y)) (few : factTotal (Y .states * Z .states) (C .transformation .counts) ≤ mostFacts) where
@@ -159,6 +160,6 @@ module _ (C : Contract) (Y Z M : OutputType) (both : IsMerged (C .transformation
       record {
         breaksExactly = λ t. (breaks-one t, one-breaks t);
         keepsExactly = merged-keeps;
-        passesExactly = merged-passes;
+        passesExactly = λ first second third one two three. (passes-each first second third one two three, each-passes first second third one two three);
         staysAdmitted = stays-admitted;
       }

@@ -22,7 +22,7 @@ use Rattle.model.specs.Merging.{pairState, firstOf, secondOf, pairCount,
 use Rattle.model.proofs.Laws.Answers.{refuse-first-fine}
 use Rattle.model.proofs.Laws.Tests.{inside, not-outside, not-eqb}
 use Rattle.model.proofs.Laws.Admitted.{everywhere, good-output-entry, good-output-mark, entries-clear}
-use Rattle.model.proofs.Laws.Merging.{Shaped, type-entry, no-fault, merged-states, table-long, marks-long, merged-entry, merged-mark}
+use Rattle.model.proofs.Laws.Merging.{entry-nothing, entry-over, Shaped, type-entry, no-fault, merged-states, table-long, marks-long, merged-entry, merged-mark}
 use Rattle.model.proofs.Rounds.Places.{place, place-symbol, place-left, place-right, place-below}
 
 -- an output type over S symbols, with any number of states: "total and deterministic"
@@ -67,7 +67,7 @@ module _ (S : ℕ) (Y Z : OutputType) where
   pair m n = pairState (Z .states) m n
 
   merged-empty : emptyState M ≡ pair (emptyState Y) (emptyState Z)
-  merged-empty = merged-entry S Y Z 0 (omega arith)
+  merged-empty = merged-entry S Y Z 0 (omega arith) ∙ entry-nothing Y Z 0 refl
 
   -- the merged table at a symbol over two pairs
   merged-inside : (s l r : ℕ) → 1 ≤ s → s < S → l < pairs → r < pairs → nextState M s l r ≡ pairNext Y Z s l r
@@ -76,6 +76,7 @@ module _ (S : ℕ) (Y Z : OutputType) where
       let below : place pairs s l r < (S - 1) * (pairs * pairs) = place-below pairs s l r hl hr S one inside in
       rw (merged-states S Y Z, index)
       (merged-entry S Y Z (suc (place pairs s l r)) (omega arith)
+      ∙ entry-over Y Z _ (place pairs s l r) refl
       ∙ rw (place-symbol pairs s l r hl hr one, place-left pairs s l r hl hr, place-right pairs s l r hl hr))
 
   module _ (good : GoodType S Y) (other : GoodType S Z) where
@@ -117,14 +118,16 @@ module _ (S : ℕ) (Y Z : OutputType) where
         over zero e f = over-positive 1 (omega arith) e f
         over (suc s) e f = over-positive (suc s) (omega arith) e f
 
+    -- a pair is accepted exactly if both its states are
+    merged-accepts : (m n : ℕ) → m < Y .states → n < Z .states
+        → (markAt (M .marks) (pair m n) ≡ 1) ↔ ((markAt (Y .marks) m ≡ 1) × (markAt (Z .marks) n ≡ 1))
+    merged-accepts m n hm hn =
+        rw (merged-mark S Y Z (pair m n) (digits-lt hm hn), digits-div m hn, digits-mod m hn) (product-one _ _ (good .mark m) (other .mark n))
+
     -- "one that allows a tree exactly if both do"
     pub merged-allows : (u : Tree) → TypeAllows M u ↔ (TypeAllows Y u × TypeAllows Z u)
     merged-allows u =
-        rw (merged-state u, merged-mark S Y Z (pair (stateOf Y u) (stateOf Z u)) (digits-lt (state-below S Y good u) below), digits-div (stateOf Y u) below, digits-mod (stateOf Y u) below)
-        (product-one _ _ (good .mark (stateOf Y u)) (other .mark (stateOf Z u)))
-      where
-        below : stateOf Z u < Z .states
-        below = state-below S Z other u
+        rw (merged-state u) (merged-accepts (stateOf Y u) (stateOf Z u) (state-below S Y good u) (state-below S Z other u))
 
     -- and is an output type
     pub merged-good : GoodType S M
@@ -137,8 +140,8 @@ module _ (S : ℕ) (Y Z : OutputType) where
         }
       where
         pair-good : (k : ℕ) → pairEntry Y Z k < pairs
-        pair-good zero = digits-lt (good .entry _) (other .entry _)
-        pair-good (suc c) = digits-lt (good .entry _) (other .entry _)
+        pair-good zero = rw (entry-nothing Y Z 0 refl) (digits-lt (good .entry _) (other .entry _))
+        pair-good (suc c) = rw (entry-over Y Z (suc c) c refl) (digits-lt (good .entry _) (other .entry _))
 
         entry-good : (k : ℕ) → Dec (k < tableLength S pairs) → getD (M .table) k 0 < pairs
         entry-good k (yes l) = rw (merged-entry S Y Z k l) (pair-good k)
@@ -162,7 +165,7 @@ module _ (S : ℕ) (Y : OutputType) where
         mark = everywhere (Y .marks) (λ (m : ℕ). m ≤ 1) (omega arith) (f .marks);
       }
 
-  pub good-faultless : SymbolsInRange S → Y .states ≤ 4 → GoodType S Y → FaultlessType S Y
+  good-faultless : SymbolsInRange S → Y .states ≤ 4 → GoodType S Y → FaultlessType S Y
   good-faultless symbols few good =
       record {
         symbols = symbols;
@@ -219,6 +222,9 @@ merged-means S Y Z first second few =
     let other = faultless-good S Z second in
     record {
       states = merged-states S Y Z;
+      nothing = merged-empty S Y Z;
+      over = merged-join S Y Z good other;
+      accepts = merged-accepts S Y Z good other;
       pairs = merged-state S Y Z good other;
       allows = merged-allows S Y Z good other;
       faultless = good-faultless S (mergedType S Y Z) (first .symbols) (omega (arith, few, merged-states S Y Z)) (merged-good S Y Z good other);

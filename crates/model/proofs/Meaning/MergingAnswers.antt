@@ -14,7 +14,7 @@ use Rattle.model.specs.Tables.{OutputType}
 use Rattle.model.specs.Answers.{Verdict, fine, refused, _then_}
 use Rattle.model.specs.Admission.{tableLength}
 use Rattle.model.specs.Refusals.{RefusesFor}
-use Rattle.model.specs.Merging.{pairCount, mergedType, typeWrong, typePlaces, typeVerdict, merged, notMerged, Merged, typeIn, IsMerged, short, mergingVerdict, merging, mergingReasons, Mergeable, MergingMeans}
+use Rattle.model.specs.Merging.{pairCount, mergedType, typeWrong, typePlaces, typeVerdict, merged, notMerged, Merged, typeIn, IsMerged, buffersShort, mergingVerdict, merging, mergingReasons, Mergeable, MergingMeans}
 use Rattle.model.proofs.Laws.Answers.{then-fine, then-passed, refuse-if-fine, refuse-if-passed, refuse-first-fine, then-numbers, refuse-if-numbers, refuse-first-numbers}
 use Rattle.model.proofs.Laws.Tests.{not-eqb}
 use Rattle.model.proofs.Laws.Merging.{buffers-fit, merging-refused, merging-fine, merged-states, table-long, marks-long}
@@ -38,7 +38,7 @@ module _ (S : ℕ) (Y : OutputType) (S′ : ℕ) (Z : OutputType) (tableBuffer m
       then-for _ _ _ _ (lowest-for 52 (typeWrong S′ Z) (typePlaces Z)) λ two.
       then-for _ _ _ _ (only-for (not (eqb S S′)) (S ≡ S′ → ⊥) 50 S′ (unequal S S′)) λ same.
       then-for _ _ _ _ (only-for (ltb 4 (pairCount Y Z)) (4 < pairCount Y Z) 53 (pairCount Y Z) (less 4 (pairCount Y Z))) λ few.
-      lowest-for 56 (short S Y S′ Z tableBuffer marksBuffer) 2
+      lowest-for 56 (buffersShort S Y S′ Z tableBuffer marksBuffer) 2
 
   -- no refusal has the number 0
   pub merging-number : (number place : ℕ) → verdict ≡ refused number place → 1 ≤ number
@@ -59,7 +59,7 @@ module _ (S : ℕ) (Y : OutputType) (S′ : ℕ) (Z : OutputType) (tableBuffer m
       let (two, r₂) = then-fine _ _ r₁ in
       let (same, r₃) = then-fine _ _ r₂ in
       let (few, room) = then-fine _ _ r₃ in
-      let long = refuse-first-fine 56 (short S Y S′ Z tableBuffer marksBuffer) 2 room in
+      let long = refuse-first-fine 56 (buffersShort S Y S′ Z tableBuffer marksBuffer) 2 room in
       record {
         first = type-fine S Y 51 .0 one;
         second = type-fine S′ Z 52 .0 two;

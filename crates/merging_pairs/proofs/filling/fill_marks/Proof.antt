@@ -5,7 +5,7 @@ use native.Mathlib.Omega.{arith}
 use Rattle.model.specs.Merging.{pairMark}
 use Rattle.model.proofs.Laws.Merging.{marks-filled}
 use Rattle.merging_pairs.specs.Types.{marksOnly}
-use Rattle.merging_pairs.proofs.Written.{Filled, filled-none, filled-more}
+use Rattle.merging_pairs.proofs.Written.{Filled, filled-none, filled-next}
 use Rattle.merging_pairs.proofs.filling.fill_marks.Statement.{statement}
 use Rattle.merging_pairs.proofs.filling.fill_marks.Tie as tie
 
@@ -18,7 +18,7 @@ abbrev μ-loop : tie.MeasureT-loop
 μ-loop states first second merged₀ n q₀ merged q = n - q
 
 mul-n : tie.Need-mul-n Inv-loop μ-loop
-mul-n c = omega (arith, c .before .before .before .before .pre .0 .fewPairs)
+mul-n c = omega (arith, c .before .before .before .before .pre .0)
 
 loop-holds : tie.Need-loop-holds Inv-loop μ-loop
 loop-holds c = (omega arith, refl, filled-none _ _)
@@ -44,7 +44,7 @@ loop-less c = omega arith
 loop-again : tie.Need-loop-again Inv-loop μ-loop
 loop-again c =
     let here = c .before .before .loop in
-    (omega arith, here .inv .1, filled-more _ _ _ _ _ (omega (arith, c .before .before .before .before .before .before .before .pre .1 .1, here .inv .2 .long)) (here .inv .2) (c .mark-of .ensures))
+    (omega arith, here .inv .1, filled-next _ _ _ _ _ (omega (arith, c .before .before .before .before .before .before .before .pre .1 .1, here .inv .2 .long)) (here .inv .2) (c .mark-of .ensures))
 
 same-length : tie.Need-same-length Inv-loop μ-loop
 same-length c = c .before .loop .inv .2 .long

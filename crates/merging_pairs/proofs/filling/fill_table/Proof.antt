@@ -7,7 +7,7 @@ use Rattle.model.specs.Merging.{pairEntry}
 use Rattle.model.proofs.Laws.Merging.{table-filled}
 use Rattle.admission_tables.proofs.Bounds.{table-bounds}
 use Rattle.merging_pairs.specs.Types.{tableOnly}
-use Rattle.merging_pairs.proofs.Written.{Filled, filled-none, filled-more}
+use Rattle.merging_pairs.proofs.Written.{Filled, filled-none, filled-next}
 use Rattle.merging_pairs.proofs.filling.fill_table.Statement.{statement}
 use Rattle.merging_pairs.proofs.filling.fill_table.Tie as tie
 
@@ -48,7 +48,7 @@ loop-less c = omega arith
 loop-again : tie.Need-loop-again Inv-loop μ-loop
 loop-again c =
     let here = c .before .before .loop in
-    (omega arith, here .inv .1, filled-more _ _ _ _ _ (omega (arith, c .before .before .before .before .before .before .before .before .pre .1 .1, here .inv .2 .long)) (here .inv .2) (c .entry-of .ensures))
+    (omega arith, here .inv .1, filled-next _ _ _ _ _ (omega (arith, c .before .before .before .before .before .before .before .before .pre .1 .1, here .inv .2 .long)) (here .inv .2) (c .entry-of .ensures))
 
 same-length : tie.Need-same-length Inv-loop μ-loop
 same-length c = c .before .loop .inv .2 .long
