@@ -70,7 +70,9 @@ fill-marks-requires c κs =
     let h = handed (c .before .before .before .before .before .before .before .before .before .before) in
     let p = passed (c .before .before .before .before .before .before .before .before) in
     let f = fits (c .before .before .before .before .before) in
-    (few h p f, ((good-first h p f .mark, good-second h p f .mark), mergeable h p f .marksRoom))
+    let one = good-first h p f .mark in
+    let two = good-second h p f .mark in
+    (few h p f, ((λ q. omega (arith, one q, two q), λ q. omega (arith, one q, two q)), mergeable h p f .marksRoom))
 
 same-length : tie.Need-same-length
 same-length c = search needs
