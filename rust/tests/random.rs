@@ -154,7 +154,7 @@ fn second_merged(merging: &Merging) -> Result<usize, Refusal> {
     merged(&Merging { first: merging.second.clone(), ..merging.clone() })
 }
 
-/// Two types and the lengths of two buffers.
+/// Whether two types with the lengths of two buffers are such a case.
 type MergingCase = fn(&Merging) -> bool;
 
 #[test]
@@ -162,7 +162,9 @@ fn mergings_meet_every_case() {
     let cases: [(&str, MergingCase); 33] = [
         ("one symbol", |m| merged(m).is_ok() && m.first.symbols == 1),
         ("sixteen symbols", |m| merged(m) == Ok(4) && m.first.symbols == 16),
-        ("buffers just as long", |m| merged(m) == Ok(4) && m.table_room % 16 == 1 && m.marks_room == 4),
+        ("buffers just as long", |m| {
+            merged(m) == Ok(4) && m.table_room == 1 + (m.first.symbols - 1) * 16 && m.marks_room == 4
+        }),
         ("a longer table", |m| {
             merged(m).is_ok_and(|states| m.table_room > 1 + (m.first.symbols - 1) * states * states)
         }),
@@ -199,7 +201,9 @@ fn mergings_meet_every_case() {
         ("other symbols, and too many states", |m| {
             matches!(merged(m), Err((50, _))) && m.first.states * m.second.states > 4
         }),
-        ("too short a table", |m| merged(m) == Err((56, 0)) && merged_with_room(m).is_ok() && m.marks_room >= 4),
+        ("too short a table", |m| {
+            merged(m) == Err((56, 0)) && merged_with_room(m).is_ok_and(|states| m.marks_room >= states)
+        }),
         ("too short marks", |m| merged(m) == Err((56, 1))),
         ("both too short", |m| {
             merged(m) == Err((56, 0)) && merged_with_room(m).is_ok_and(|states| m.marks_room < states)

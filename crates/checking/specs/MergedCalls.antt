@@ -40,11 +40,12 @@ pub record CallsMerged (C : Contract) {Y Z M : OutputType} {K L N : ℕ}
   -- without room: a pass of the merged contract speaks of each alone, whether or not its own check comes to an end
   pub passKeeps : Passed both → NoTreeBreaks (withOutput C Y) × NoTreeBreaks (withOutput C Z)
   -- passes of each alone leave the merged check nothing to show
-  pub keepsPass : Passed first → Passed second → NoTreeBreaks (withOutput C M)
+  pub keepsPass : EachPassed first second → NoTreeBreaks (withOutput C M)
+  pub noneShown : EachPassed first second → (j : ℕ) → both .answer ≡ tree j → ⊥
   -- a document shown for one alone breaks the merged contract
   pub firstShown : (j : ℕ) → first .answer ≡ tree j → Breaks (withOutput C M) (treeAt (first .closingRows) j)
   pub secondShown : (j : ℕ) → second .answer ≡ tree j → Breaks (withOutput C M) (treeAt (second .closingRows) j)
-  -- one shown for the merged contract breaks one of the two alone, and no lower one breaks either
+  -- one shown for the merged contract breaks the first or the second, and no lower one breaks either
   pub bothShown : (j : ℕ) → both .answer ≡ tree j
       → Breaks (withOutput C Y) (treeAt (both .closingRows) j) ⊎ Breaks (withOutput C Z) (treeAt (both .closingRows) j)
   pub noneLower : (j : ℕ) → both .answer ≡ tree j

@@ -2,4 +2,4 @@
 pub mod Replies
 pub mod Calls
 pub mod Refusals
-pub mod Mergers
+pub mod MergeReplies

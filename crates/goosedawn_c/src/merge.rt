@@ -3,7 +3,7 @@ ghost use mathlib.Core.Path.{_≡_};
 ghost use Rattle.model.specs.Merging.{merging};
 ghost use Rattle.model.specs.Tables.{typeOf};
 ghost use Rattle.merging.specs.Answers.{mergingAnswer};
-ghost use Rattle.goosedawn_c.specs.Mergers.{mergingReply, MergesInto};
+ghost use Rattle.goosedawn_c.specs.MergeReplies.{mergingReply, MergesInto};
 use merging::MergingAnswer;
 use merging::merge;
 use merging_tests::fault_number;

@@ -14,7 +14,7 @@ use Rattle.model.proofs.Laws.Answers.{then-assoc, then-fine, then-passed, then-
 use Rattle.model.proofs.Laws.Merging.{merging-refused, merging-fine, table-alone, marks-alone}
 use Rattle.model.proofs.Meaning.Merging.{GoodType, faultless-good, type-fine}
 use Rattle.model.proofs.Meaning.MergingAnswers.{fine-mergeable}
-use Rattle.merging_tests.specs.Answers.{typesVerdict, roomVerdict}
+use Rattle.merging_tests.specs.Answers.{typesVerdict, resultVerdict}
 use Rattle.merging_pairs.specs.Types.{tableOnly, marksOnly, Few}
 use Rattle.merging.specs.Answers.{Merges}
 
@@ -46,16 +46,16 @@ module _ (h : Handed) where
   abbrev pub ofTypes : Verdict
   ofTypes = typesVerdict S Y (h .secondSymbols) Z
 
-  abbrev pub ofRoom : Verdict
-  ofRoom = roomVerdict S (pairCount Y Z) (length (h .tableBuffer)) (length (h .marksBuffer))
+  abbrev pub ofResult : Verdict
+  ofResult = resultVerdict S (pairCount Y Z) (length (h .tableBuffer)) (length (h .marksBuffer))
 
   -- what is refused, in two parts
-  two-parts : verdict ≡ (ofTypes then ofRoom)
+  two-parts : verdict ≡ (ofTypes then ofResult)
   unfolding mergingVerdict
   two-parts =
       rw (
-        then-assoc (typeVerdict 51 S Y) (typeVerdict 52 (h .secondSymbols) Z then counts) ofRoom,
-        then-assoc (typeVerdict 52 (h .secondSymbols) Z) counts ofRoom,
+        then-assoc (typeVerdict 51 S Y) (typeVerdict 52 (h .secondSymbols) Z then counts) ofResult,
+        then-assoc (typeVerdict 52 (h .secondSymbols) Z) counts ofResult,
       )
     where
       counts : Verdict
@@ -78,11 +78,11 @@ module _ (h : Handed) where
     pub few-states : pairCount Y Z ≤ 16
     few-states = mul-le-mul (types-known .0 .states .1) (types-known .1 .states .1)
 
-    pub room-failed : (number place : ℕ) → refused number place ≡ ofRoom → Merges (notMerged number place) (h .tableBuffer) (h .marksBuffer) result
-    room-failed number place e = refused-result number place (two-parts ∙ then-passed _ _ (sym passed) ∙ sym e)
+    pub result-failed : (number place : ℕ) → refused number place ≡ ofResult → Merges (notMerged number place) (h .tableBuffer) (h .marksBuffer) result
+    result-failed number place e = refused-result number place (two-parts ∙ then-passed _ _ (sym passed) ∙ sym e)
 
     -- behind all tests
-    module _ (fits : fine ≡ ofRoom) where
+    module _ (fits : fine ≡ ofResult) where
       nothing-refused : verdict ≡ fine
       nothing-refused = two-parts ∙ then-passed _ _ (sym passed) ∙ sym fits
 

@@ -10,7 +10,7 @@ use merging_pairs::filling::fill_table;
 use merging_pairs::pairs::States;
 use merging_tests::MergingFault;
 use merging_tests::Test;
-use merging_tests::test_room;
+use merging_tests::test_result;
 use merging_tests::test_types;
 
 // What merging answers.
@@ -53,7 +53,7 @@ pub fn merge(
         return MergingAnswer::Refused(fault);
     }
     let merged = states * second_states;
-    let room = test_room(symbols, merged, merged_table.len(), merged_marks.len());
+    let room = test_result(symbols, merged, merged_table.len(), merged_marks.len());
     if let Test::Failed(fault) = room {
         return MergingAnswer::Refused(fault);
     }

@@ -76,7 +76,7 @@ pub fn fill_table(symbols: usize, states: States, first: &[u16], second: &[u16],
     }
 }
 
-// Writes the merged marks.
+// Writes the merged marks; they do not depend on the symbols, so the promise says 1.
 pub fn fill_marks(states: States, first: &[u16], second: &[u16], merged: &mut [u16])
     requires { ⌜ Few (states .first) (states .second) ⌝ }
     requires { ⌜ Marks (now first) × Marks (now second) ⌝ }

@@ -99,7 +99,7 @@ fn next_second(
     SecondState(next_state(states, table, symbol, left.0, right.0))
 }
 
-// What the two types give the empty forest.
+// What the two types give the empty forest; that does not depend on how many states they have, so the promise says 0.
 pub fn empty_pair(first: &[u16], second: &[u16]) -> Pair
     ensures { λ r. ⌜ r .first .0 .0 ≡ emptyState (tableOnly 0 (now (first .entry))) ⌝ }
     ensures { λ r. ⌜ r .second .0 .0 ≡ emptyState (tableOnly 0 (now (second .entry))) ⌝ }
@@ -143,7 +143,7 @@ fn mark_of_second(marks: &[u16], state: SecondState) -> u16
     number_at(marks, state.0.0 as usize)
 }
 
-// The mark of a state of the merged type: 1 if both its states are accepted.
+// The mark of a state of the merged type: 1 if both states of its pair are accepted.
 pub fn mark_of(states: States, first: &[u16], second: &[u16], state: OutputState) -> u16
     requires { ⌜ Few (states .first) (states .second) ⌝ }
     requires { ⌜ Marks (now first) × Marks (now second) ⌝ }

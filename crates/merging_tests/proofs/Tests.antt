@@ -15,7 +15,7 @@ use Rattle.model.proofs.Laws.Answers.{then-passed, then-refused, refuse-if-pass
 use Rattle.model.proofs.Laws.Tests.{inside}
 use Rattle.model.proofs.Laws.Merging.{Shaped, table-short, marks-short, buffers-fit}
 use Rattle.admission_tables.proofs.Bounds.{table-bounds}
-use Rattle.merging_tests.specs.Answers.{roomVerdict}
+use Rattle.merging_tests.specs.Answers.{resultVerdict}
 
 -- sizes that are not outside their ranges
 pub in-range : (S O : ℕ) → outside 1 16 S ≡ false → outside 1 4 O ≡ false → (1 ≤ S) × (S ≤ 16) × (O ≤ 4)
@@ -44,18 +44,18 @@ other-symbols S S′ differ = refuse-if-refused _ 50 S′ (rw (ne-eqb S S′ dif
 
 -- the states of the merged type, then its buffers
 module _ (S states tableRoom marksRoom : ℕ) where
-  pub too-many : 4 < states → roomVerdict S states tableRoom marksRoom ≡ refused 53 states
+  pub too-many : 4 < states → resultVerdict S states tableRoom marksRoom ≡ refused 53 states
   too-many h = then-refused _ _ 53 states (refuse-if-refused _ 53 states (lt-ltb 4 states h))
 
   module _ (few : states ≤ 4) where
     behind-states : refuseIf (ltb 4 states) 53 states ≡ fine
     behind-states = refuse-if-passed _ 53 states (le-ltb 4 states few)
 
-    pub no-table : tableRoom < tableLength S states → roomVerdict S states tableRoom marksRoom ≡ refused 56 0
+    pub no-table : tableRoom < tableLength S states → resultVerdict S states tableRoom marksRoom ≡ refused 56 0
     no-table h = then-passed _ _ behind-states ∙ table-short S states tableRoom marksRoom h
 
-    pub no-marks : tableLength S states ≤ tableRoom → marksRoom < states → roomVerdict S states tableRoom marksRoom ≡ refused 56 1
+    pub no-marks : tableLength S states ≤ tableRoom → marksRoom < states → resultVerdict S states tableRoom marksRoom ≡ refused 56 1
     no-marks long h = then-passed _ _ behind-states ∙ marks-short S states tableRoom marksRoom long h
 
-    pub room : tableLength S states ≤ tableRoom → states ≤ marksRoom → roomVerdict S states tableRoom marksRoom ≡ fine
-    room long h = then-passed _ _ behind-states ∙ buffers-fit S states tableRoom marksRoom long h
+    pub result-fits : tableLength S states ≤ tableRoom → states ≤ marksRoom → resultVerdict S states tableRoom marksRoom ≡ fine
+    result-fits long h = then-passed _ _ behind-states ∙ buffers-fit S states tableRoom marksRoom long h

@@ -47,5 +47,5 @@ abbrev pub typesVerdict : (S : ℕ) (Y : OutputType) (S′ : ℕ) (Z : OutputTyp
 typesVerdict S Y S′ Z = typeVerdict 51 S Y then typeVerdict 52 S′ Z then refuseIf (not (eqb S S′)) 50 S′
 
 -- what is refused of a merged type of so many states, and of the buffers for it
-abbrev pub roomVerdict : (S states tableRoom marksRoom : ℕ) → Verdict
-roomVerdict S states tableRoom marksRoom = refuseIf (ltb 4 states) 53 states then refuseFirst 56 (bufferShort S states tableRoom marksRoom) 2
+abbrev pub resultVerdict : (S states tableRoom marksRoom : ℕ) → Verdict
+resultVerdict S states tableRoom marksRoom = refuseIf (ltb 4 states) 53 states then refuseFirst 56 (bufferShort S states tableRoom marksRoom) 2

@@ -9,7 +9,7 @@ ghost use Prim.Native.Nat.{_≤_};
 ghost use lib.Dec.{eqb};
 ghost use Rattle.model.specs.Answers.{refuseIf, _then_};
 ghost use Rattle.model.specs.Tables.{typeOf};
-ghost use Rattle.merging_tests.specs.Answers.{faultNumber, faultPlace, typeTestVerdict, TellsType, testVerdict, typesVerdict, roomVerdict};
+ghost use Rattle.merging_tests.specs.Answers.{faultNumber, faultPlace, typeTestVerdict, TellsType, testVerdict, typesVerdict, resultVerdict};
 
 // Why two types are not merged.
 pub enum MergingFault {
@@ -83,6 +83,7 @@ fn test_type(symbols: usize, states: usize, table: &[u16], marks: &[u16]) -> Typ
     if marks.len() != states {
         return TypeTest::Wrong(3);
     }
+    // No input marks stand before them.
     let entry = first_bad_entry(states, &table[..0], table, marks);
     if entry < table.len() + marks.len() {
         let place = 4 + entry;
@@ -111,7 +112,7 @@ fn test_second(test: TypeTest) -> Test
     }
 }
 
-// Whether both types are over as many symbols.
+// Whether both types are over the same number of symbols.
 fn test_symbols(symbols: usize, second_symbols: usize) -> Test
     ensures { λ r. ⌜ testVerdict r ≡ refuseIf (not (eqb symbols «second_symbols»)) 50 «second_symbols» ⌝ }
 {
@@ -152,9 +153,9 @@ pub fn test_types(
 }
 
 // Tests how many states the merged type has, then whether its table and its marks fit into their buffers.
-pub fn test_room(symbols: usize, states: usize, table_room: usize, marks_room: usize) -> Test
+pub fn test_result(symbols: usize, states: usize, table_room: usize, marks_room: usize) -> Test
     requires { ⌜ (1 ≤ symbols) × (symbols ≤ 16) ⌝ }
-    ensures { λ r. ⌜ testVerdict r ≡ roomVerdict symbols states «table_room» «marks_room» ⌝ }
+    ensures { λ r. ⌜ testVerdict r ≡ resultVerdict symbols states «table_room» «marks_room» ⌝ }
 {
     if 4 < states {
         return Test::Failed(MergingFault::States(states));

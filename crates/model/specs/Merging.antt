@@ -198,7 +198,7 @@ EachPasses C Y Z first second = Passes (withOutput C Y) first × Passes (withOut
 
 -- one transformation and one input type, with output types Y and Z and with M, which is Y and Z merged
 pub record MergedContract (C : Contract) (Y Z M : OutputType) : Type 0 where
-  -- a tree breaks the merged contract exactly if it breaks one of the two alone
+  -- a tree breaks the contract with M exactly if it breaks the one with Y or the one with Z
   pub breaksExactly : (t : Tree) → Breaks (withOutput C M) t ↔ (Breaks (withOutput C Y) t ⊎ Breaks (withOutput C Z) t)
   pub keepsExactly : NoTreeBreaks (withOutput C M) ↔ (NoTreeBreaks (withOutput C Y) × NoTreeBreaks (withOutput C Z))
   -- "Given room for all three checks, the merged contract passes exactly if each alone does."

@@ -31,7 +31,7 @@ refusing S Y S′ Z tableRoom marksRoom number place =
       due = record { answer = notMerged number place; table = replicate tableRoom 7; marks = replicate marksRoom 7 };
     }
 
--- two types of two states over two symbols, one of one state over one, and types with three, two and four states over one
+-- two types of two states over two symbols, and types of one, two, three and four states over one
 abbrev pub Y : OutputType
 Y = typeOf 2 (0 ∷ 1 ∷ 1 ∷ 1 ∷ 1 ∷ []) (1 ∷ 0 ∷ [])
 

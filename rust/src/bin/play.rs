@@ -23,7 +23,7 @@ prints its answers. docs/FORMAT.md lists the statements. Beside those of the pro
              set a second output type, as the contract's statements set the contract's
 
     merge T M
-             merges the contract's output type and the second one into a table of T numbers and marks of M numbers:
+             merges the contract's output type and the second one, with T numbers lent for the table and M for the marks:
              `merged STATES`, or a refusal; `show` then prints both buffers, `table N ..` and `marks N ..`
 
 The status is 0; or 2 if the script has a fault, which the last line names, if it cannot be read or its answers cannot be

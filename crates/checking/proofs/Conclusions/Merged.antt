@@ -1,5 +1,5 @@
 -- Three calls, with two output types and with these merged: from what each answer means, since a tree breaks the merged contract exactly if
--- it breaks one of the two alone.
+-- it breaks the first or the second.
 use mathlib.Core.Path.{ap, _∙_}
 use mathlib.Core.Logic.{inl, inr}
 use Prim.Native.Nat.{ℕ}
@@ -57,7 +57,8 @@ merged-calls {C} {Y} {Z} {M} merged first second both =
         each-passes C merged first second both three,
       );
       passKeeps = λ passed. contract .keepsExactly .0 (pass-keeps both passed);
-      keepsPass = λ y z. contract .keepsExactly .1 (pass-keeps first y, pass-keeps second z);
+      keepsPass = keeps;
+      noneShown = λ passed j e. let shown = call-meaning both .treeLeast j e in keeps passed _ (shown .over) (shown .breaking);
       firstShown = λ j e. contract .breaksExactly _ .1 (inl (call-meaning first .treeLeast j e .breaking));
       secondShown = λ j e. contract .breaksExactly _ .1 (inr (call-meaning second .treeLeast j e .breaking));
       bothShown = λ j e. contract .breaksExactly _ .0 (call-meaning both .treeLeast j e .breaking);
@@ -66,3 +67,6 @@ merged-calls {C} {Y} {Z} {M} merged first second both =
   where
     contract : MergedContract C Y Z M
     contract = merged-contract C Y Z M merged
+
+    keeps : EachPassed first second → NoTreeBreaks (withOutput C M)
+    keeps (y, z) = contract .keepsExactly .1 (pass-keeps first y, pass-keeps second z)

@@ -5,7 +5,7 @@ use borrow.Author.Needs.{needs}
 use Rattle.model.specs.Tables.{typeOf}
 use Rattle.model.specs.Answers.{fine}
 use Rattle.merging_tests.specs.Answers.{testVerdict}
-use Rattle.merging.proofs.Results.{Handed, ofTypes, ofRoom, types-failed, types-known, few-states, room-failed, mergeable, few, good-first, good-second, both-written}
+use Rattle.merging.proofs.Results.{Handed, ofTypes, ofResult, types-failed, types-known, few-states, result-failed, mergeable, few, good-first, good-second, both-written}
 use Rattle.merging.proofs.merge.Statement.{statement}
 use Rattle.merging.proofs.merge.Tie as tie
 
@@ -41,21 +41,21 @@ passed c = sym (ap testVerdict (c .enum-told .given .1)) ∙ c .before .before .
 mul-merged : tie.Need-mul-merged
 mul-merged c = omega (arith, few-states (handed (c .before .before)) (passed c))
 
-test-room-requires : tie.Need-test-room-requires
-test-room-requires c κs = types-known (handed (c .before .before)) (passed c) .0 .symbols
+test-result-requires : tie.Need-test-result-requires
+test-result-requires c κs = types-known (handed (c .before .before)) (passed c) .0 .symbols
 
 enum-known-room : tie.Need-enum-known-room
 enum-known-room c = search needs
 
 returns-2 : tie.Need-returns-2
-returns-2 c = room-failed (handed (c .before .before .before .before .before .before)) (passed (c .before .before .before .before)) _ _ (sym (ap testVerdict (c .before .room .given .1)) ∙ c .before .before .before .test-room .ensures)
+returns-2 c = result-failed (handed (c .before .before .before .before .before .before)) (passed (c .before .before .before .before)) _ _ (sym (ap testVerdict (c .before .room .given .1)) ∙ c .before .before .before .test-result .ensures)
 
 enum-told-2 : tie.Need-enum-told-2
 enum-told-2 c = search needs
 
 -- and so did the room
-fits : (c : tie.After-enum-told2) → fine ≡ ofRoom (handed (c .before .before .before .before .before))
-fits c = sym (ap testVerdict (c .enum-told2 .given .1)) ∙ c .before .before .test-room .ensures
+fits : (c : tie.After-enum-told2) → fine ≡ ofResult (handed (c .before .before .before .before .before))
+fits c = sym (ap testVerdict (c .enum-told2 .given .1)) ∙ c .before .before .test-result .ensures
 
 fill-table-requires : tie.Need-fill-table-requires
 fill-table-requires c κs =
@@ -93,7 +93,7 @@ merge-spec =
     returns
     enum-told
     mul-merged
-    test-room-requires
+    test-result-requires
     enum-known-room
     returns-2
     enum-told-2

@@ -181,7 +181,7 @@ module _ (S : ℕ) (Y Z : OutputType) where
   unfolding mergedType
   merged-mark q h = tabulated-at (pairCount Y Z) (pairMark Y Z) q h
 
-  -- the merged table does not hang on the marks, nor the merged marks on the tables
+  -- the merged table does not depend on the marks, nor the merged marks on the tables
   pub table-alone : mergedType S Y Z .table ≡ mergedType S (typeOf (Y .states) (Y .table) []) (typeOf (Z .states) (Z .table) []) .table
   unfolding mergedType pairEntry
   table-alone = tabulated-cong (tableLength S (pairCount Y Z)) _ _ same

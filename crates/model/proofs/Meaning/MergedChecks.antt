@@ -1,5 +1,5 @@
--- The merged contract: a tree breaks it exactly if it breaks one of the two alone; so, given room, it passes exactly if each alone does. It
--- is admitted where the first is and the pairs make no more than 256 facts.
+-- The merged contract: a tree breaks it exactly if it breaks the contract with the first type or the one with the second; so, given room, it
+-- passes exactly if each alone does. It is admitted where the first is and the pairs make no more than 256 facts.
 use mathlib.Core.Path.{_≡_, refl}
 use mathlib.Core.Bool.{Bool, false}
 use mathlib.Core.Logic.{_↔_, _⊎_, inl, inr}
@@ -39,7 +39,7 @@ room-passes C lent room = (λ (n, e). means .passExactly n .0 e .keeps, λ keeps
         absurd (omega (arith, count-bounds C (more .kinds) (more .areKinds) (room .kinds) (room .counted), more .more, room .within))
 
 module _ (C : Contract) where
-  -- what is taken does not hang on the output type
+  -- what is taken does not depend on the output type
   taken-also : (A B : OutputType) (t : Tree) → Takes (withOutput C A) t → Takes (withOutput C B) t
   taken-also A B t k = record { state = k .state; isState = k .isState; accepted = k .accepted; reached = k .reached }
 
@@ -84,7 +84,7 @@ module _ (C : Contract) (Y Z M : OutputType) (both : IsMerged (C .transformation
         let (y, z) = merged-keeps .0 (room-passes (withOutput C M) third three .0 m) in
         (room-passes (withOutput C Y) first one .1 y, room-passes (withOutput C Z) second two .1 z)
 
-  -- admission of the merged contract, part by part: what does not hang on the output type is as with Y
+  -- admission of the merged contract, part by part: what does not depend on the output type is as with Y
   module _ (good : Admitted (withOutput C Y)) (few : factTotal (Y .states * Z .states) (C .transformation .counts) ≤ mostFacts) where
     abbrev S : ℕ
     S = C .transformation .symbols

@@ -1,7 +1,7 @@
 -- The reply is made of what merging promises, which leaves both buffers as they are to be.
 use mathlib.Core.Path.{_∙_, ap}
 use borrow.Author.Needs.{needs}
-use Rattle.goosedawn_c.specs.Mergers.{mergingReply}
+use Rattle.goosedawn_c.specs.MergeReplies.{mergingReply}
 use Rattle.goosedawn_c.proofs.merge.goosedawn_merge.Statement.{statement}
 use Rattle.goosedawn_c.proofs.merge.goosedawn_merge.Tie as tie
 

@@ -2,9 +2,9 @@
 use mathlib.Core.Path.{sym}
 use native.Mathlib.Omega.{arith}
 use borrow.Author.Needs.{needs}
-use Rattle.merging_tests.proofs.Tests.{too-many, no-table, no-marks, room}
-use Rattle.merging_tests.proofs.test_room.Statement.{statement}
-use Rattle.merging_tests.proofs.test_room.Tie as tie
+use Rattle.merging_tests.proofs.Tests.{too-many, no-table, no-marks, result-fits}
+use Rattle.merging_tests.proofs.test_result.Statement.{statement}
+use Rattle.merging_tests.proofs.test_result.Tie as tie
 
 returns : tie.Need-returns
 returns c = let args = c .before .args in sym (too-many (args .symbols) (args .states) (args .table-room) (args .marks-room) (omega arith))
@@ -19,7 +19,7 @@ returns-3 : tie.Need-returns-3
 returns-3 c = let args = c .before .before .before .before .args in sym (no-marks (args .symbols) (args .states) (args .table-room) (args .marks-room) (omega arith) (omega arith) (omega arith))
 
 returns-4 : tie.Need-returns-4
-returns-4 c = let args = c .before .before .before .before .args in sym (room (args .symbols) (args .states) (args .table-room) (args .marks-room) (omega arith) (omega arith) (omega arith))
+returns-4 c = let args = c .before .before .before .before .args in sym (result-fits (args .symbols) (args .states) (args .table-room) (args .marks-room) (omega arith) (omega arith) (omega arith))
 
-pub test-room-spec : {M : Type 1} → statement M
-test-room-spec = tie.close (tie.spec returns table-length-requires returns-2 returns-3 returns-4)
+pub test-result-spec : {M : Type 1} → statement M
+test-result-spec = tie.close (tie.spec returns table-length-requires returns-2 returns-3 returns-4)
