@@ -1,6 +1,6 @@
 -- The reply of merging two output types, and what a caller in C or Rust may conclude from it: the reply and the closing buffers are those
 -- of the definition, of which the model says what they mean; and a check with the type in these buffers is one of the merged contract.
-use mathlib.Core.Path.{_≡_, refl, ap, _∙_}
+use mathlib.Core.Path.{_≡_, refl, ap, subst, _∙_}
 use mathlib.Core.List.{List}
 use Prim.Native.Nat.{ℕ}
 use native.Mathlib.Omega.{arith}
@@ -9,7 +9,7 @@ use lib.Dec.{eqb}
 use Rattle.foundation.specs.Tests.{choose}
 use Rattle.model.specs.Tables.{Contract, OutputType}
 use Rattle.model.specs.Answers.{Verdict, fine, refused}
-use Rattle.model.specs.Merging.{MergingAnswer, merged, notMerged, Merged, typeIn, mergingVerdict, merging, MergingMeans, withOutput}
+use Rattle.model.specs.Merging.{MergingAnswer, merged, notMerged, Merged, typeIn, IsMerged, mergingVerdict, merging, MergingMeans, withOutput}
 use Rattle.model.proofs.Laws.Merging.{merging-refused, merging-fine}
 use Rattle.model.proofs.Meaning.MergingAnswers.{merging-number, merging-means}
 use Rattle.checking.specs.Calls.{Call}
@@ -58,4 +58,6 @@ module _ (S : ℕ) (Y : OutputType) (S′ : ℕ) (Z : OutputType) (tableBuffer m
       → {K L N : ℕ} (first : Call (withOutput C Y) K) (second : Call (withOutput C Z) L) (both : Call (withOutput C (typeIn S n table marks)) N)
       → CallsMerged C first second both
   merge-and-check r table marks promise n told C symbols first second both =
-      merged-calls (rw symbols at (merge-call r table marks promise .isMerged n told)) first second both
+      merged-calls {C = C}
+      (subst (λ (s : ℕ). IsMerged s Y Z (typeIn S n table marks)) symbols (merge-call r table marks promise .isMerged n told))
+      first second both

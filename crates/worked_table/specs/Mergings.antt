@@ -5,7 +5,7 @@ use Prim.Native.Nat.{ℕ}
 use lib.ListN.{replicate}
 use Rattle.foundation.specs.Lists.{tabulated}
 use Rattle.model.specs.Tables.{OutputType, typeOf}
-use Rattle.model.specs.Merging.{merged, notMerged, Merged, mergedType, typeVerdict, mergingVerdict, merging}
+use Rattle.model.specs.Merging.{pairEntry, merged, notMerged, Merged, mergedType, typeVerdict, mergingVerdict, merging}
 use Rattle.worked_table.specs.Table.{computing}
 
 -- two types, each with its symbol count, and how long the buffers are, which hold sevens; and what is due
@@ -121,5 +121,5 @@ asked t = merging (t .symbols) (t .first) (t .secondSymbols) (t .second) (replic
 
 -- the definition gives every line
 pub merging-examples : map asked mergings ≡ map (λ (t : Two). t .due) mergings
-unfolding computing tabulated mergedType typeVerdict mergingVerdict merging
+unfolding computing tabulated pairEntry mergedType typeVerdict mergingVerdict merging
 merging-examples = refl
