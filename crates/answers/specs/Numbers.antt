@@ -51,7 +51,8 @@ abbrev pub admissionAnswer : AdmissionAnswer → Answer
 admissionAnswer admission.Admitted = admitted
 admissionAnswer (admission.Refused fault) = contractRefusal fault
 
--- "0, not of the input type; 1, of it with no output outside the output type; 2, of it with such an output"
+-- "0, not of the input type; 1, of it with no output outside the output type; 2, of it with such an output"; "judging gives 0 for any
+-- other tree" than one of one root
 abbrev pub judgementResult : Judgement → ℕ
 judgementResult judgement.Outside = 0
 judgementResult judgement.Sound = 1

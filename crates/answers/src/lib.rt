@@ -54,11 +54,11 @@ pub enum DocumentFault {
 
 // What a document is for a contract.
 pub enum Judgement {
-    // Not of the input type.
+    // Not taken: not of the input type, or not of one root.
     Outside,
-    // Of the input type, with no output outside the output type.
+    // Taken, with no output outside the output type.
     Sound,
-    // Of the input type, with an output outside the output type.
+    // Taken, with an output outside the output type.
     Breaking,
 }
 

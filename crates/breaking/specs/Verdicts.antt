@@ -1,8 +1,9 @@
--- What tells a breaking kind: a word of the input states that are accepted, and one of the output states that are not.
+-- What tells a breaking kind: the mark of one root, a word of the input states that are accepted, and one of the output states that
+-- are not.
 use mathlib.Core.Path.{_≡_, refl, ap, ap₂, sym, _∙_}
 use mathlib.Core.List.{List, [], _∷_}
 use mathlib.Core.Bool.{Bool, true, false, not, _&&_}
-use Prim.Native.Nat.{ℕ, _+_, _/_, _%_, _≤_, _<_}
+use Prim.Native.Nat.{ℕ, _/_, _%_, _<_}
 use native.Mathlib.Nat.{pow-zero, lt-of-le-of-lt}
 use native.Mathlib.Omega.{arith}
 use borrow.Author.Tests.{eq-eqb, ne-eqb}
@@ -15,7 +16,7 @@ use Rattle.foundation.specs.Words.{bit, word, bit-word, word-lt}
 use Rattle.foundation.specs.Bits.{bit-and, bit-zero, zero-bits}
 use Rattle.model.specs.Tables.{Contract, markAt}
 use Rattle.model.specs.Facts.{offset, code, factNumber}
-use Rattle.model.specs.Kinds.{stateIn, bitOfFact, factsIn, ofInputType, hasWrongOutput, breaks}
+use Rattle.model.specs.Kinds.{rootBit, marksIn, stateIn, bitOfFact, factsIn, ofInputType, hasWrongOutput, isTaken, breaks}
 use Rattle.model.proofs.Laws.Established.{Established}
 use Rattle.breaking.specs.declared.Verdicts.{Verdicts}
 
@@ -27,13 +28,17 @@ marked marks mark = word (length marks) (λ (q : ℕ). same (markAt marks q) mar
 abbrev pub accepting : (accepted : ℕ) → List ℕ → Bool
 accepting accepted kind = not (eqb (bitAnd (getD kind 0 0) accepted) 0)
 
+-- .. and its trees have one root
+abbrev pub taking : (accepted : ℕ) → List ℕ → Bool
+taking accepted kind = marksIn kind .oneRoot && accepting accepted kind
+
 -- some fact of procedure 0 with a state not accepted is in the kind
 abbrev pub mistaken : (refused : ℕ) → List ℕ → Bool
 mistaken refused kind = not (eqb (bitAnd (getD kind 1 0) refused) 0)
 
 -- both
 abbrev pub breaking : (accepted refused : ℕ) → List ℕ → Bool
-breaking accepted refused kind = accepting accepted kind && mistaken refused kind
+breaking accepted refused kind = taking accepted kind && mistaken refused kind
 
 -- the words of two types' marks
 pub record VerdictsOf (inputMarks outputMarks : List ℕ) (v : Verdicts) : Type 0 where
@@ -86,17 +91,22 @@ module _ (C : Contract) (known : Established C) where
   -- a kind is held with further words behind its five
   module _ (v : Verdicts) (of : VerdictsOf (C .input .marks) (C .output .marks) v) (held : List ℕ) where
     -- "some accepted input state is in it"
-    pub accepting-is : accepting (v .accepted) held ≡ ofInputType C (take 5 held)
+    accepting-is : accepting (v .accepted) held ≡ ofInputType C (take 5 held)
     unfolding ofInputType stateIn
     accepting-is =
         rw (getD-take 5 held 0 0 (omega arith), of .accepts, known .inputMarks)
         (some-bit (getD held 0 0) (C .input .states) (λ q. same (markAt (C .input .marks) q) 1))
 
+    -- "a contract takes no other" tree than one of one root
+    pub taking-is : taking (v .accepted) held ≡ isTaken C (take 5 held)
+    unfolding isTaken marksIn
+    taking-is = ap₂ _&&_ (ap (λ (w : ℕ). bit w rootBit) (sym (getD-take 5 held 0 0 (omega arith)))) accepting-is ∙ and-is _ _
+
     -- "A kind breaks the contract if .."
     pub breaking-is : breaking (v .accepted) (v .refused) held ≡ breaks C (take 5 held)
     unfolding breaks hasWrongOutput
     breaking-is =
-        ap₂ _&&_ accepting-is
+        ap₂ _&&_ taking-is
         (rw (of .refuses, known .outputMarks) (some-bit (getD held 1 0) (C .output .states) (λ q. same (markAt (C .output .marks) q) 0))
         ∙ some-cong (C .output .states) _ _
         (λ q h. ap (λ (b : Bool). same (markAt (C .output .marks) q) 0 and b) (sym (start-fact (take 5 held) q h ∙ ap (λ (x : ℕ). bit x q) (getD-take 5 held 1 0 (omega arith))))))

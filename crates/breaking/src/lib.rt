@@ -1,12 +1,11 @@
-// What a kind says of its trees: whether they are of the input type, and whether they break the contract. Two words tell it,
-// which are made once for a contract.
+// What a kind says of its trees: whether the contract takes them, and whether they break it. Two words tell it, which are made
+// once for a contract, and the mark of one root.
 ghost use mathlib.Core.Path.{_≡_};
-ghost use Prim.Native.Nat.{ℕ, _+_, _*_, _^_, _<_, _≤_};
+ghost use Prim.Native.Nat.{_+_, _*_, _^_, _<_, _≤_};
 ghost use lib.ListN.{length};
 ghost use Rattle.foundation.specs.Words.{word, one-if};
-ghost use Rattle.foundation.specs.Tests.{same};
-ghost use Rattle.model.specs.Tables.{markAt};
-ghost use Rattle.breaking.specs.Verdicts.{accepting, mistaken, breaking, marked, VerdictsOf};
+ghost use Rattle.breaking.specs.Verdicts.{accepting, taking, mistaken, breaking, marked, VerdictsOf};
+use root_marks::has_one_root;
 
 // A bit for each input state that is accepted, and one for each output state that is not.
 pub struct Verdicts {
@@ -51,10 +50,17 @@ pub fn verdicts_of(input_marks: &[u16], output_marks: &[u16]) -> Verdicts
 }
 
 // Whether an accepted input state is in a kind.
-pub fn of_input_type(verdicts: Verdicts, kind: &[u64; 6]) -> bool
+fn of_input_type(verdicts: Verdicts, kind: &[u64; 6]) -> bool
     ensures { λ r. ⌜ r ≡ accepting (verdicts .accepted) (now (kind .entry)) ⌝ }
 {
     kind[0] & verdicts.accepted != 0
+}
+
+// Whether the contract takes the trees of a kind: they have one root, and an accepted input state is in the kind.
+pub fn is_taken(verdicts: Verdicts, kind: &[u64; 6]) -> bool
+    ensures { λ r. ⌜ r ≡ taking (verdicts .accepted) (now (kind .entry)) ⌝ }
+{
+    has_one_root(kind) & of_input_type(verdicts, kind)
 }
 
 // Whether a fact of procedure 0 with a state not accepted is in a kind.
@@ -68,5 +74,5 @@ pub fn has_wrong_output(verdicts: Verdicts, kind: &[u64; 6]) -> bool
 pub fn breaks(verdicts: Verdicts, kind: &[u64; 6]) -> bool
     ensures { λ r. ⌜ r ≡ breaking (verdicts .accepted) (verdicts .refused) (now (kind .entry)) ⌝ }
 {
-    of_input_type(verdicts, kind) & has_wrong_output(verdicts, kind)
+    is_taken(verdicts, kind) & has_wrong_output(verdicts, kind)
 }

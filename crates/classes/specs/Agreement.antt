@@ -1,5 +1,5 @@
--- A symbol's kind over two kinds asks only for the facts that its rules call and the states that its input rows name: kinds
--- that agree there give the same kind.
+-- A symbol's kind over two kinds asks only for the facts that its rules call, the states that its input rows name, and whether the
+-- right one is the empty forest's: kinds that agree there give the same kind.
 use mathlib.Core.Path.{_≡_, refl, ap, ap₂, _∙_}
 use mathlib.Core.List.{List, [], _∷_}
 use mathlib.Core.Bool.{Bool, true, false}
@@ -11,7 +11,7 @@ use Rattle.model.specs.Tables.{Contract, Transformation, OutputType, inputRow, 
 use Rattle.model.specs.Expressions.{Child, left, right, Expression, parameter, nothing, symbol, call, Arguments, none, argument}
 use Rattle.model.specs.Outputs.{rightSide}
 use Rattle.model.specs.Facts.{FactSet, onSide, yields, yieldsAll, factsAt}
-use Rattle.model.specs.Kinds.{reachedNext, stateIn, factsIn, nextKind}
+use Rattle.model.specs.Kinds.{marksIn, reachedNext, stateIn, factsIn, nextKind}
 use Rattle.model.proofs.Laws.Established.{Established}
 use Rattle.model.proofs.Laws.Facts.{AllBelow, IsFact, SameFacts, WellFormed, AllWellFormed, argumentCount, words-same, right-side-well-formed}
 
@@ -99,13 +99,14 @@ pub record SameSeen (C : Contract) (s : ℕ) (P : Child → ℕ → Type 0) (kin
       → stateIn C (kinds left) (inputRow (C .input .rows) k .left) ≡ stateIn C (kinds′ left) (inputRow (C .input .rows) k .left)
   pub rightStates : (k : ℕ) → k < inputRowCount (C .input .rows) → inputRow (C .input .rows) k .symbol ≡ s
       → stateIn C (kinds right) (inputRow (C .input .rows) k .right) ≡ stateIn C (kinds′ right) (inputRow (C .input .rows) k .right)
+  pub rightEmpty : marksIn (kinds right) .isEmpty ≡ marksIn (kinds′ right) .isEmpty
 
 pub next-kind-agree : (C : Contract) → Established C → (s : ℕ) (P : Child → ℕ → Type 0) (kinds kinds′ : Child → List ℕ)
     → SameSeen C s P kinds kinds′
     → nextKind C s (kinds left) (kinds right) ≡ nextKind C s (kinds′ left) (kinds′ right)
 unfolding nextKind reachedNext
 next-kind-agree C known s P kinds kinds′ seen =
-    words-same C _ _ _ _
+    words-same C _ _ _ _ (ap (λ (b : Bool). record { oneRoot = b; isEmpty = false }) (seen .rightEmpty))
     (λ q hq.
     some-cong _ _ _
     (λ k hk.

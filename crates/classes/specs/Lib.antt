@@ -1,3 +1,3 @@
--- Classes of rows: for a symbol, rows that agree on all that its rules and input rows can see on a side are of one class.
+-- Classes of rows: for a symbol, rows that agree on all that it can see on a side are of one class.
 pub mod Agreement
 pub mod Masks

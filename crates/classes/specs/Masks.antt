@@ -1,4 +1,4 @@
--- Masks: five words that show the input states and the facts which a symbol can see of a child. Kinds that agree under the
+-- Masks: five words that show the input states, the marks and the facts which a symbol can see of a child. Kinds that agree under the
 -- masks are of one class: the symbol makes the same kind of them.
 use mathlib.Core.Path.{_≡_, refl, ap, sym, _∙_}
 use mathlib.Core.List.{List, [], _∷_}
@@ -17,7 +17,7 @@ use Rattle.model.specs.Tables.{Contract, inputRow, inputRowCount, ruleAt, ruleC
 use Rattle.model.specs.Expressions.{Child, left, right}
 use Rattle.model.specs.Outputs.{rightSide}
 use Rattle.model.specs.Facts.{onSide, offset, code, factNumber}
-use Rattle.model.specs.Kinds.{stateIn, bitOfFact, factsIn, nextKind}
+use Rattle.model.specs.Kinds.{emptyBit, marksIn, stateIn, bitOfFact, factsIn, nextKind}
 use Rattle.model.proofs.Laws.Established.{Established}
 use Rattle.model.proofs.Laws.Facts.{IsFact, code-lt, fact-number-lt}
 use Rattle.classes.specs.Agreement.{EachCall, next-kind-agree}
@@ -51,6 +51,7 @@ pub record Covers (C : Contract) (s : ℕ) (masks : Child → List ℕ) : Type 0
       → bit (getD (masks left) 0 0) (inputRow (C .input .rows) k .left) ≡ true
   pub rightStates : (k : ℕ) → k < inputRowCount (C .input .rows) → inputRow (C .input .rows) k .symbol ≡ s
       → bit (getD (masks right) 0 0) (inputRow (C .input .rows) k .right) ≡ true
+  pub rightEmpty : bit (getD (masks right) 0 0) emptyBit ≡ true
 
 -- how many words a mask has
 abbrev pub maskWords : ℕ
@@ -89,6 +90,11 @@ module _ (C : Contract) (known : Established C) where
   unfolding stateIn
   state-agrees mask kind kind′ a q shown = mask-bit (getD kind 0 0) (getD kind′ 0 0) (getD mask 0 0) q (a .words 0 (omega arith)) shown
 
+  empty-agrees : (mask kind kind′ : List ℕ) → AgreeUnder mask kind kind′ → bit (getD mask 0 0) emptyBit ≡ true
+      → marksIn kind .isEmpty ≡ marksIn kind′ .isEmpty
+  unfolding marksIn
+  empty-agrees mask kind kind′ a shown = mask-bit (getD kind 0 0) (getD kind′ 0 0) (getD mask 0 0) emptyBit (a .words 0 (omega arith)) shown
+
   -- kinds that agree under the masks make the same kind
   pub class-agree : (s : ℕ) (masks : Child → List ℕ) → Covers C s masks → (l l′ r r′ : List ℕ)
       → AgreeUnder (masks left) l l′
@@ -101,6 +107,7 @@ module _ (C : Contract) (known : Established C) where
         facts = sides;
         leftStates = λ k h e. state-agrees (masks left) l l′ al (inputRow (C .input .rows) k .left) (covers .leftStates k h e);
         rightStates = λ k h e. state-agrees (masks right) r r′ ar (inputRow (C .input .rows) k .right) (covers .rightStates k h e);
+        rightEmpty = empty-agrees (masks right) r r′ ar (covers .rightEmpty);
       })
     where
       sides : (c : Child) (p q : ℕ) (qs : List ℕ) → ShowsFacts (C .output .states) (C .transformation .counts) (masks c) p

@@ -11,7 +11,7 @@ use Rattle.model.specs.Trees.{Tree, empty, node}
 use Rattle.model.specs.Documents.{documentTree}
 use Rattle.model.specs.Kinds.{kindOf, nextKind, emptyKind}
 use Rattle.model.proofs.Laws.Established.{Established}
-use Rattle.model.proofs.Laws.Facts.{length-words}
+use Rattle.model.proofs.Rounds.Buffers.{length-empty-kind, length-next-kind}
 use Rattle.model.proofs.Laws.Documents.{Document, Readable, treeFrom, endFrom, some-number, inner-place, document-tree}
 use Rattle.kind_words.specs.Blocks.{Words}
 use Rattle.kind_words.specs.Ends.{next-words, empty-words}
@@ -92,9 +92,9 @@ module _ (kinds : List ℕ) (i : ℕ) (k : List ℕ) where
 
 module _ (C : Contract) where
   kind-length : (t : Tree) → length (kindOf C t) ≡ 5
-  unfolding kindOf nextKind emptyKind
-  kind-length empty = length-words C _ _
-  kind-length (node s l r) = length-words C _ _
+  unfolding kindOf
+  kind-length empty = length-empty-kind C
+  kind-length (node s l r) = length-next-kind C s (kindOf C l) (kindOf C r)
 
   -- the kind of a tree, and a 0
   pub kind-six : (t : Tree) → length (kindOf C t ++ (0 ∷ [])) ≡ 6

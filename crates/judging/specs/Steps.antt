@@ -1,7 +1,7 @@
 -- Judging step by step: each refusal and the judgement, as the definition gives them.
 use mathlib.Core.Path.{_≡_, refl, ap, ap₂, subst, sym, _∙_}
 use mathlib.Core.List.{List, [], _∷_, _++_}
-use mathlib.Core.Bool.{Bool}
+use mathlib.Core.Bool.{Bool, true, false, _&&_}
 use Prim.Native.Nat.{ℕ}
 use lib.ListN.{length, take}
 use borrow.Author.Tests.{eq-eqb, ne-eqb}
@@ -23,7 +23,7 @@ use Rattle.reading.specs.Answers.{faultVerdict, fault-given}
 use Rattle.reading.specs.Taken.{TakesDocument, all-taken}
 use Rattle.answers.proofs.Answered.{refused-as}
 use Rattle.breaking.specs.declared.Verdicts.{Verdicts}
-use Rattle.breaking.specs.Verdicts.{VerdictsOf, accepting, breaking, accepting-is, breaking-is}
+use Rattle.breaking.specs.Verdicts.{VerdictsOf, taking, breaking, taking-is, breaking-is}
 use Rattle.document_kinds.specs.Stored.{kind-taken}
 
 -- an answer and the closing buffer
@@ -35,13 +35,21 @@ pub record Comes (answer : Answer) (words : List ℕ) (to : Judged) : Type 0 whe
 abbrev pub judgedTree : Contract → Tree → ℕ → Judged
 judgedTree C t taken = record { answer = judged (judgement C (kindOf C t)) taken; words = kindOf C t }
 
--- 0, not of the input type; 1, of it and not breaking the contract; 2, of it and breaking
-abbrev pub judgementBy : (accepts breaks : Bool) → ℕ
-judgementBy accepts breaks = choose accepts (choose breaks 2 1) 0
+-- 0, not taken; 1, taken and not breaking the contract; 2, taken and breaking
+abbrev pub judgementBy : (takes breaks : Bool) → ℕ
+judgementBy takes breaks = choose takes (choose breaks 2 1) 0
 
--- what the two words of a contract tell of a kind
+-- what the two words of a contract, and the mark of one root, tell of a kind
 abbrev pub told : Verdicts → List ℕ → ℕ
-told v kind = judgementBy (accepting (v .accepted) kind) (breaking (v .accepted) (v .refused) kind)
+told v kind = judgementBy (taking (v .accepted) kind) (breaking (v .accepted) (v .refused) kind)
+
+-- a breaking kind is taken
+pub told-breaking : (v : Verdicts) (kind : List ℕ) → breaking (v .accepted) (v .refused) kind ≡ true → 2 ≡ told v kind
+told-breaking v kind e = ap₂ judgementBy (sym (first-true (taking (v .accepted) kind) _ e)) (sym e)
+  where
+    first-true : (a b : Bool) → (a && b) ≡ true → a ≡ true
+    first-true true b e = refl
+    first-true false b e = e
 
 -- which is the judgement; the kind of a tree is held with a sixth word, and written without
 pub comes-judged : (C : Contract) (v : Verdicts) (t : Tree) (result taken : ℕ) (held written : List ℕ) → Established C
@@ -53,7 +61,7 @@ pub comes-judged : (C : Contract) (v : Verdicts) (t : Tree) (result taken : ℕ)
 unfolding judgement
 comes-judged C v t result taken held written known of kind puts says =
     let five : take 5 held ≡ kindOf C t = ap (λ (k : List ℕ). take 5 k) kind ∙ kind-taken C t in
-    let is : told v held ≡ judgement C (take 5 held) = ap₂ judgementBy (accepting-is C known v of held) (breaking-is C known v of held) in
+    let is : told v held ≡ judgement C (take 5 held) = ap₂ judgementBy (taking-is C known v of held) (breaking-is C known v of held) in
     record { answers = ap (λ (r : ℕ). judged r taken) (says ∙ is ∙ ap (judgement C) five); closes = puts ∙ five }
 
 -- the numbers taken are a document of D too, where D is this contract

@@ -1,5 +1,5 @@
-// Judging the document that numbers begin with: whether it is of the input type, and whether an output is outside the output type;
-// the kind of its tree is written, and how many numbers it took is told.
+// Judging the document that numbers begin with: whether the contract takes it (it is of the input type and has one root), and whether an
+// output is outside the output type; the kind of its tree is written, and how many numbers it took is told.
 ghost use mathlib.Core.Path.{_≡_};
 ghost use lib.ListN.{length, take};
 ghost use Rattle.model.specs.Tables.{contract};
@@ -15,7 +15,7 @@ use answers::Judgement;
 use answers::JudgingAnswer;
 use breaking::Verdicts;
 use breaking::breaks;
-use breaking::of_input_type;
+use breaking::is_taken;
 use document_kinds::document_kind;
 use prepared::Prepared;
 use preparing::most_table;
@@ -41,7 +41,7 @@ fn write_kind(words: &[u64; 6], kind: &mut [u64])
 fn judgement_of(verdicts: Verdicts, kind: &[u64; 6]) -> Judgement
     ensures { λ r. ⌜ judgementResult r ≡ told verdicts (now (kind .entry)) ⌝ }
 {
-    if of_input_type(verdicts, kind) {
+    if is_taken(verdicts, kind) {
         if breaks(verdicts, kind) {
             return Judgement::Breaking;
         }

@@ -57,14 +57,15 @@ fn find_kind(words: &[u64], count: usize, kind: &[u64; 6]) -> usize
     count
 }
 
-// The slot of a kind, which names a row to compare first.
+// The slot of a kind, which names a row to compare first. The two halves are laid over each other 29 bits apart, so that the marks of
+// roots do not fall on input states 0 and 1.
 fn slot_of(kind: &[u64; 6]) -> usize
     ensures { λ r. ⌜ r < 1024 ⌝ }
 {
     let low = kind[0] ^ (kind[1] << 7) ^ (kind[2] << 19) ^ (kind[3] << 31) ^ (kind[4] << 43);
     let high = (kind[1] >> 23) ^ (kind[2] >> 31) ^ (kind[3] >> 11) ^ (kind[4] >> 5);
     let both = low ^ high;
-    let half = (both ^ (both >> 32)) % 4294967296;
+    let half = (both ^ (both >> 29)) % 4294967296;
     ((half * 2654435761) >> 20) as usize % 1024
 }
 

@@ -1,9 +1,9 @@
 -- Kinds held as six words: the sixth does not matter. The kind of the empty forest is that of symbol 0 over two kinds that
--- have input state 0 alone and no fact.
+-- have input state 0 alone and no fact, with its own mark.
 use mathlib.Core.Path.{_≡_, refl, ap, ap₂, subst, sym, _∙_}
 use mathlib.Core.List.{List, [], _∷_, _++_}
 use mathlib.Core.Bool.{Bool, true, false}
-use Prim.Native.Nat.{ℕ, zero, suc, _+_, _-_, _/_, _%_, _^_, _<_, _≤_}
+use Prim.Native.Nat.{ℕ, zero, suc, _+_, _-_, _/_, _%_, _^_, _<_}
 use native.Mathlib.Omega.{arith}
 use native.Mathlib.Decide.{ℕ-discrete, decLt}
 use lib.ListN.{length, getD, take, List·getD-append}
@@ -17,10 +17,11 @@ use Rattle.model.specs.Tables.{Contract, inputRow}
 use Rattle.model.specs.Admission.{mostFacts}
 use Rattle.model.specs.Expressions.{Child, left, right}
 use Rattle.model.specs.Facts.{FactSet, noFacts, onSide, factNumber, factsAt}
-use Rattle.model.specs.Kinds.{factsIn, bitOfFact, stateIn, reachedNext, reachedEmpty, nextKind, emptyKind, kindWords}
+use Rattle.model.specs.Kinds.{RootMarks, emptyMarks, marksOver, marksIn, factsIn, bitOfFact, stateIn, reachedNext, reachedEmpty, nextKind, emptyKind, kindWords}
 use Rattle.model.proofs.Laws.Established.{Established}
 use Rattle.model.proofs.Laws.Facts.{SameFacts, words-same, facts-at-same, fact-number-lt, right-side-well-formed, length-words, words-below}
 use Rattle.kind_words.specs.Blocks.{zeros, Words}
+use Rattle.kind_words.specs.Marked.{unmarkedKind, firstWordMarked, words-marked}
 
 module _ (C : Contract) (known : Established C) where
   abbrev Agree : FactSet → FactSet → Type 0
@@ -45,10 +46,14 @@ module _ (C : Contract) (known : Established C) where
   unfolding stateIn
   states-five k q = ap (λ (w : ℕ). bit w q) (sym (getD-take 5 k 0 0 (omega arith)))
 
+  marks-five : (k : List ℕ) → marksIn k ≡ marksIn (take 5 k)
+  unfolding marksIn
+  marks-five k = rw (getD-take 5 k 0 0 (omega arith))
+
   pub kind-five : (s : ℕ) (l r : List ℕ) → nextKind C s l r ≡ nextKind C s (take 5 l) (take 5 r)
   unfolding nextKind reachedNext
   kind-five s l r =
-      words-same C _ _ _ _
+      words-same C _ _ _ _ (ap marksOver (marks-five r))
       (λ q hq. some-cong _ _ _ (λ i hi. ap₂ _and_ refl (ap₂ _and_ refl (ap₂ _and_ (states-five l _) (states-five r _)))))
       (facts-at-same (C .transformation) (C .output) _ _ (on-both _ _ _ _ (facts-five l) (facts-five r)) (right-side-well-formed C known) s)
 
@@ -87,11 +92,13 @@ module _ (C : Contract) (known : Established C) where
           rw (row .leafLeft e, row .leafRight e, state-zero) (and-true (same (inputRow (C .input .rows) i .symbol) 0))
       go (no ne) = rw (same-no (inputRow (C .input .rows) i .symbol) 0 ne)
 
-  pub kind-of-empty : nextKind C 0 belowEmpty belowEmpty ≡ emptyKind C
-  unfolding nextKind emptyKind reachedNext reachedEmpty
+  pub kind-of-empty : firstWordMarked emptyMarks (unmarkedKind C 0 belowEmpty belowEmpty ++ (0 ∷ [])) ≡ emptyKind C ++ (0 ∷ [])
+  unfolding unmarkedKind emptyKind reachedNext reachedEmpty
   kind-of-empty =
-      words-same C _ _ _ _ (λ q hq. some-cong _ _ _ (λ i hi. ap₂ _and_ refl (leaf-row i hi)))
-      (facts-at-same (C .transformation) (C .output) _ _ no-facts (right-side-well-formed C known) 0)
+      words-marked C emptyMarks _ _
+      ∙ ap (λ (k : List ℕ). k ++ (0 ∷ []))
+      (words-same C _ _ _ _ refl (λ q hq. some-cong _ _ _ (λ i hi. ap₂ _and_ refl (leaf-row i hi)))
+      (facts-at-same (C .transformation) (C .output) _ _ no-facts (right-side-well-formed C known) 0))
 
   -- the words of a kind fit 64 bits, also with a 0 after them
   pub kind-with-zero : (k : List ℕ) → length k ≡ 5 → ((j : ℕ) → getD k j 0 < 2 ^ 64) → Words (k ++ (0 ∷ []))
@@ -104,18 +111,18 @@ module _ (C : Contract) (known : Established C) where
           subst (λ (i : ℕ). getD (k ++ (0 ∷ [])) i 0 < 2 ^ 64) (sym e)
           (rw (getD-append-add k (0 ∷ []) (j - length k) 0, zeros 1 (j - length k)) (pow-pos 64))
 
-  of-words : (reaches : ℕ → Bool) (facts : FactSet) → Words (kindWords C reaches facts ++ (0 ∷ []))
-  of-words reaches facts =
-      kind-with-zero (kindWords C reaches facts) (length-words C reaches facts) (words-below C reaches facts (omega (arith, known .inputStates .≤most)))
+  of-words : (marks : RootMarks) (reaches : ℕ → Bool) (facts : FactSet) → Words (kindWords C marks reaches facts ++ (0 ∷ []))
+  of-words marks reaches facts =
+      kind-with-zero (kindWords C marks reaches facts) (length-words C marks reaches facts) (words-below C marks reaches facts (known .inputStates .≤most))
 
   pub next-words : (s : ℕ) (l r : List ℕ) → Words (nextKind C s l r ++ (0 ∷ []))
   unfolding nextKind
   next-words s l r =
-      of-words (reachedNext (C .input) s (stateIn C l) (stateIn C r)) (factsAt (C .transformation) (C .output) (onSide (factsIn C l) (factsIn C r)) s)
+      of-words _ (reachedNext (C .input) s (stateIn C l) (stateIn C r)) (factsAt (C .transformation) (C .output) (onSide (factsIn C l) (factsIn C r)) s)
 
   pub empty-words : Words (emptyKind C ++ (0 ∷ []))
   unfolding emptyKind
-  empty-words = of-words (reachedEmpty (C .input)) (factsAt (C .transformation) (C .output) (λ c. noFacts) 0)
+  empty-words = of-words _ (reachedEmpty (C .input)) (factsAt (C .transformation) (C .output) (λ c. noFacts) 0)
 
 -- .. and so do those below the empty forest
 pub below-words : Words (1 ∷ 0 ∷ 0 ∷ 0 ∷ 0 ∷ 0 ∷ [])

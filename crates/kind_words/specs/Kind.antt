@@ -1,4 +1,4 @@
--- The whole kind in table form, and that it is the model's kind: six words, the sixth 0.
+-- The whole kind in table form, and that it is the model's kind without its marks: six words, the sixth 0.
 use mathlib.Core.Path.{_≡_, refl, ap, ap₂, subst, sym, _∙_}
 use mathlib.Core.List.{List, [], _∷_, _++_}
 use mathlib.Core.Bool.{Bool}
@@ -19,7 +19,7 @@ use Rattle.model.specs.Expressions.{Child}
 use Rattle.model.specs.Outputs.{rightSide}
 use Rattle.model.specs.Facts.{onSide, offset, factsAt}
 use Rattle.model.specs.Admission.{mostFacts}
-use Rattle.model.specs.Kinds.{factsIn, nextKind, kindWords, numberedFact}
+use Rattle.model.specs.Kinds.{factsIn, kindWords, numberedFact}
 use Rattle.model.proofs.Laws.Established.{Established}
 use Rattle.model.proofs.Laws.Facts.{numbered-none, offset-next}
 use Rattle.kind_words.specs.Sizes.{mostSymbols, listLengths, firstRules, firstRows, nextRules, nextRows}
@@ -30,6 +30,7 @@ use Rattle.kind_words.specs.Called.{OffsetsIn, Narrow}
 use Rattle.kind_words.specs.Listed.{Layout, at, wordsOn, Before, ListOf, StepsFrom, layout, filled-is, done-at}
 use Rattle.kind_words.specs.Chains.{Chained}
 use Rattle.kind_words.specs.Rules.{ruleBlock, withRule, withRules, placed, allFacts, all-facts-bit, block-is}
+use Rattle.kind_words.specs.Marked.{no-marks-added, unmarkedKind}
 use Rattle.kind_words.specs.States.{rowStates, states-are}
 
 -- how many numbers the table of lists takes at most
@@ -71,7 +72,7 @@ nodeWords lay offsets lists counts table nodes before s leftKind rightKind = wor
 abbrev pub ruleFacts : Layout → (offsets counts rules : List ℕ) (s : ℕ) (words : List ℕ) → List ℕ
 ruleFacts lay offsets counts rules s words = withRules lay offsets counts rules s words (replicate 6 0) (ruleCount rules)
 
--- the kind of symbol s over two kinds, as the code computes it; `before` is what the words of the nodes were before
+-- the kind of symbol s over two kinds, without its marks, as the code computes it; `before` is what the words of the nodes were before
 unfoldable pub kindForm : Layout → (offsets lists counts rows table nodes rules before : List ℕ) (s : ℕ) (leftKind rightKind : List ℕ) → List ℕ
 kindForm lay offsets lists counts rows table nodes rules before s leftKind rightKind =
     set (ruleFacts lay offsets counts rules s (nodeWords lay offsets lists counts table nodes before s leftKind rightKind)) 0
@@ -331,14 +332,15 @@ module _ (C : Contract) (lay : Layout) (offsets lists : List ℕ) (prepared : Pr
         ∙ fact-bit (256 + i)
         ∙ numbered-none O′ (C .transformation .counts) _ (256 + i) (omega (arith, known .facts)))
 
-    -- the table form is the model's kind, and a 0
+    -- the table form is the model's kind without its marks, and a 0
     pub kind-form-is : kindForm lay offsets lists (C .transformation .counts) (C .input .rows) (C .output .table) (C .transformation .nodes) (C .transformation .rules) before s l r
-        ≡ nextKind C s l r ++ (0 ∷ [])
-    unfolding kindForm nextKind kindWords
+        ≡ unmarkedKind C s l r ++ (0 ∷ [])
+    unfolding kindForm unmarkedKind kindWords
     kind-form-is =
         rw layout-is
         (six kind _ (holds .long)
         ∙ rw (
+          no-marks-added,
           states-are C s l r (λ i hi. known .inputRow i hi .state),
           first-word,
           fact-word 1 (omega arith),

@@ -8,6 +8,7 @@ pub mod Listed
 pub mod Chains
 pub mod Rules
 pub mod States
+pub mod Marked
 pub mod Kind
 pub mod Ends
 pub mod Fits

@@ -19,6 +19,7 @@ use Rattle.foundation.specs.Bits.{bit-shl, bit-ones, bit-or}
 use Rattle.model.specs.Tables.{Contract, Node, nodeAt, nodeCount, ruleAt, countOf}
 use Rattle.model.specs.Expressions.{Child, left, right, childOf, Expression, argumentsOf, expression}
 use Rattle.model.specs.Facts.{offset}
+use Rattle.model.specs.Kinds.{emptyBit}
 use Rattle.model.specs.Admission.{references, mostFacts}
 use Rattle.model.proofs.Laws.Established.{Established, GoodNode, good-parameter, good-nothing, good-symbol, good-call}
 use Rattle.model.proofs.Laws.Expressions.{expression-parameter, expression-nothing, expression-symbol, expression-call}
@@ -31,7 +32,7 @@ use Rattle.kind_words.specs.Kind.{Prepared, listOf, lanes-fit, offset-inside}
 use Rattle.lanes.proofs.Room.{pow-some}
 use Rattle.classes.specs.Agreement.{EachCall, EachCallOfAll}
 use Rattle.classes.specs.Masks.{ShowsFacts, maskIn}
-use Rattle.masks.specs.Seen.{sideOf, statesSeen, state-seen, Sees}
+use Rattle.masks.specs.Seen.{sideOf, statesSeen, state-seen, marksSeen, empty-seen, Sees}
 
 -- as many ones as a procedure of that many parameters has facts
 abbrev pub onesFor : (O count : ℕ) → ℕ
@@ -271,15 +272,19 @@ module _ {C : Contract} {lay : Layout} {offsets lists : List ℕ} (prepared : Pr
             };
       }
 
-  -- the states and the facts that a symbol can see, in one mask
-  pub mask-sees : (onRight : Bool) → Sees C s onRight (maskIn (set (factsSeen C offsets lists s onRight) 0 (statesSeen (C .input .rows) s onRight)) 0)
+  -- the states, the marks and the facts that a symbol can see, in one mask
+  pub mask-sees : (onRight : Bool)
+      → Sees C s onRight (maskIn (set (factsSeen C offsets lists s onRight) 0 (bitOr (statesSeen (C .input .rows) s onRight) (marksSeen onRight))) 0)
   mask-sees onRight =
       record {
         calls = λ r l e.
             each-listed (C .transformation .symbols) (C .transformation .counts) (C .transformation .nodes) (known′ .node) (at list) (length list)
             (prepared .lists .list s h) _ calls (ruleAt (C .transformation .rules) r .node)
             (subst (λ (x : ℕ). Before (at (listOf lists x)) (length (listOf lists x)) (ruleAt (C .transformation .rules) r .node)) e (prepared .lists .onList r l));
-        states = λ k l e. rw (getD-set-same facts 0 states 0 (omega (arith, shown .holds .long))) (state-seen (C .input .rows) s onRight k l e);
+        states = λ k l e.
+            rw first (bit-or states marks _ ∙ or-true-left _ _ (state-seen (C .input .rows) s onRight k l e));
+        isEmpty = λ e.
+            rw first (bit-or states marks emptyBit ∙ or-true-right _ _ (ap (λ (b : Bool). bit (marksSeen b) emptyBit) e ∙ empty-seen));
       }
     where
       list : List ℕ
@@ -291,14 +296,23 @@ module _ {C : Contract} {lay : Layout} {offsets lists : List ℕ} (prepared : Pr
       states : ℕ
       states = statesSeen (C .input .rows) s onRight
 
+      marks : ℕ
+      marks = marksSeen onRight
+
+      seen : ℕ
+      seen = bitOr states marks
+
       shown : Shown (C .output .states) (C .transformation .counts) (C .transformation .nodes) (at list) onRight (length list) facts
       shown = shown-to C known′ offsets (prepared .place) list (prepared .lists .list s h .isNode) onRight (length list) (omega arith)
 
-      word : (w : ℕ) → w < 4 → getD (maskIn (set facts 0 states) 0) (1 + w) 0 ≡ getD facts (1 + w) 0
-      word zero l = getD-set-other facts 0 1 states 0 (λ e. omega arith)
-      word (suc zero) l = getD-set-other facts 0 2 states 0 (λ e. omega arith)
-      word (suc (suc zero)) l = getD-set-other facts 0 3 states 0 (λ e. omega arith)
-      word (suc (suc (suc zero))) l = getD-set-other facts 0 4 states 0 (λ e. omega arith)
+      first : getD (set facts 0 seen) 0 0 ≡ seen
+      first = getD-set-same facts 0 seen 0 (omega (arith, shown .holds .long))
+
+      word : (w : ℕ) → w < 4 → getD (maskIn (set facts 0 seen) 0) (1 + w) 0 ≡ getD facts (1 + w) 0
+      word zero l = getD-set-other facts 0 1 seen 0 (λ e. omega arith)
+      word (suc zero) l = getD-set-other facts 0 2 seen 0 (λ e. omega arith)
+      word (suc (suc zero)) l = getD-set-other facts 0 3 seen 0 (λ e. omega arith)
+      word (suc (suc (suc zero))) l = getD-set-other facts 0 4 seen 0 (λ e. omega arith)
       word (suc (suc (suc (suc w)))) l = absurd (omega arith)
 
       on-side : (n : ℕ) → n < nodeCount (C .transformation .nodes) → nodeAt (C .transformation .nodes) n .tag ≡ 2
@@ -315,7 +329,7 @@ module _ {C : Contract} {lay : Layout} {offsets lists : List ℕ} (prepared : Pr
 
       calls : (i : ℕ) → i < length list → nodeAt (C .transformation .nodes) (at list i) .tag ≡ 2
           → childOf (nodeAt (C .transformation .nodes) (at list i) .child) ≡ sideOf onRight
-          → ShowsFacts (C .output .states) (C .transformation .counts) (maskIn (set facts 0 states) 0) (nodeAt (C .transformation .nodes) (at list i) .name)
+          → ShowsFacts (C .output .states) (C .transformation .counts) (maskIn (set facts 0 seen) 0) (nodeAt (C .transformation .nodes) (at list i) .name)
       calls i l t e =
           let n : ℕ = at list i in
           let p : ℕ = nodeAt (C .transformation .nodes) (at list i) .name in

@@ -1,3 +1,3 @@
--- What a symbol's input rows and rules can see of a child's kind, and the masks that show it.
+-- What a symbol can see of a child's kind, and the masks that show it.
 pub mod Seen
 pub mod Calls

@@ -1,5 +1,5 @@
--- What a symbol can see on a side: the states that its input rows name there, and the facts of the procedures that its rules call
--- there.
+-- What a symbol can see on a side: the states that its input rows name there, on the right whether the child is the empty forest, and
+-- the facts of the procedures that its rules call there.
 use mathlib.Core.Path.{_≡_, refl, ap, sym, subst, _∙_}
 use mathlib.Core.List.{List}
 use mathlib.Core.Bool.{Bool, true, false}
@@ -20,6 +20,7 @@ use Rattle.model.specs.Tables.{Contract, InputRow, inputRow, inputRowCount, rul
 use Rattle.model.specs.Expressions.{Child, left, right, Expression, parameter, nothing, symbol, call, Arguments, none, argument}
 use Rattle.model.specs.Outputs.{rightSide}
 use Rattle.model.specs.Facts.{onSide}
+use Rattle.model.specs.Kinds.{emptyBit}
 use Rattle.kind_words.specs.Chains.{NextFrom, or-first, or-next}
 use Rattle.kind_words.specs.Fits.{RowsFit}
 use Rattle.classes.specs.Agreement.{EachCall, EachCallOfAll}
@@ -77,12 +78,21 @@ pub state-small : {rows : List ℕ} → RowsFit rows → (onRight : Bool) (k : �
 state-small fit false k h = omega (arith, fit .left k h)
 state-small fit true k h = omega (arith, fit .right k h)
 
+-- the marks that a symbol can see on a side: of the right child "bit 33 if it is empty"
+unfoldable pub marksSeen : Bool → ℕ
+marksSeen onRight = choose onRight (2 ^ emptyBit) 0
+
+pub empty-seen : bit (marksSeen true) emptyBit ≡ true
+unfolding marksSeen bit
+empty-seen = refl
+
 -- a mask shows what symbol s can see on a side
 pub record Sees (C : Contract) (s : ℕ) (onRight : Bool) (mask : List ℕ) : Type 0 where
   pub calls : (r : ℕ) → r < ruleCount (C .transformation .rules) → ruleAt (C .transformation .rules) r .symbol ≡ s
       → EachCall (λ c p. c ≡ sideOf onRight → ShowsFacts (C .output .states) (C .transformation .counts) mask p) (rightSide (C .transformation) r)
   pub states : (k : ℕ) → k < inputRowCount (C .input .rows) → inputRow (C .input .rows) k .symbol ≡ s
       → bit (getD mask 0 0) (stateOn onRight (inputRow (C .input .rows) k)) ≡ true
+  pub isEmpty : onRight ≡ true → bit (getD mask 0 0) emptyBit ≡ true
 
 -- the masks of the symbols below n show what those symbols can see
 pub record AllSee (C : Contract) (onRight : Bool) (n : ℕ) (masks : List ℕ) : Type 0 where
@@ -112,6 +122,7 @@ covered C leftMasks rightMasks l r =
             calls = λ j hj e. each-call-both _ _ _ (both s) (rightSide (C .transformation) j) (l .sees s h k .calls j hj e) (r .sees s h k .calls j hj e);
             leftStates = λ j hj e. l .sees s h k .states j hj e;
             rightStates = λ j hj e. r .sees s h k .states j hj e;
+            rightEmpty = r .sees s h k .isEmpty refl;
           };
     }
   where

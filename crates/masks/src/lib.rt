@@ -1,5 +1,5 @@
-// The masks of what each symbol can see of a child's kind: the states that its input rows name on that side, and the facts of
-// the procedures that its rules call there.
+// The masks of what each symbol can see of a child's kind: the states that its input rows name on that side, on the right whether the
+// child is the empty forest, and the facts of the procedures that its rules call there.
 ghost use mathlib.Core.Path.{_≡_};
 ghost use Prim.Native.Nat.{_+_, _*_, _<_, _≤_};
 ghost use lib.ListN.{length};
@@ -9,7 +9,7 @@ ghost use Rattle.kind_words.specs.Sizes.{mostSymbols};
 ghost use Rattle.kind_words.specs.Fits.{RowsIn};
 ghost use Rattle.prepared.specs.Parts.{contractIn, listsIn, Ready};
 ghost use Rattle.classes.specs.Masks.{maskWords, maskIn, Covered};
-ghost use Rattle.masks.specs.Seen.{stateOn, stateBit, statesSeen, stored, Sees, AllSee};
+ghost use Rattle.masks.specs.Seen.{stateOn, stateBit, statesSeen, marksSeen, stored, Sees, AllSee};
 ghost use Rattle.masks.specs.Calls.{onesFor, withCall, CallFits, CallsFit, factsCalled, factsSeen};
 use blocks::lane_of_ones;
 use blocks::no_facts;
@@ -30,6 +30,7 @@ use prepared::lists_in;
 use prepared::nexts_in;
 use prepared::nodes_in;
 use prepared::rows_in;
+use root_marks::empty_mark;
 use tables::InputRow;
 use tables::InputState;
 use tables::Node;
@@ -90,6 +91,16 @@ fn states_seen(prepared: Prepared, table: &[u16], symbol: Symbol, on_right: bool
         symbol,
         on_right,
     )
+}
+
+// The marks that a symbol can see on a side.
+fn marks_seen(on_right: bool) -> u64
+    ensures { λ r. ⌜ r ≡ marksSeen «on_right» ⌝ }
+{
+    if on_right {
+        return empty_mark();
+    }
+    0
 }
 
 // As many ones as a procedure of that many parameters has facts.
@@ -177,7 +188,7 @@ fn mask_of(prepared: Prepared, table: &[u16], symbol: Symbol, on_right: bool) ->
     ensures { λ r. ⌜ Sees (contractIn prepared (now (table .entry))) (symbol .0) «on_right» (maskIn r 0) ⌝ }
 {
     let mut mask = facts_seen(prepared, table, symbol, on_right);
-    mask[0] = states_seen(prepared, table, symbol, on_right);
+    mask[0] = states_seen(prepared, table, symbol, on_right) | marks_seen(on_right);
     mask
 }
 

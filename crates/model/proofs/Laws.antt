@@ -6,6 +6,7 @@ pub mod Established
 pub mod Tests
 pub mod Nodes
 pub mod Admitted
+pub mod RootMarks
 pub mod Facts
 pub mod Documents
 pub mod Rules

@@ -3,7 +3,7 @@ use mathlib.Core.Path.{_≡_}
 use mathlib.Core.List.{[]}
 use Prim.Native.Nat.{ℕ, _*_, _-_, _<_}
 use lib.ListN.{length, take, drop, replicate}
-use Rattle.model.specs.Trees.{Tree, empty, node, Over}
+use Rattle.model.specs.Trees.{Tree, empty, node, Over, OneRoot}
 use Rattle.model.specs.Tables.{Contract, InputType, OutputType, inputRow, inputRowCount, markAt}
 use Rattle.model.specs.Outputs.{Output}
 use Rattle.model.specs.Facts.{stateOf}
@@ -22,8 +22,10 @@ Reaches X (node s l r) q =
     × Reaches X l (inputRow (X .rows) i .left)
     × Reaches X r (inputRow (X .rows) i .right)
 
--- "A contract takes a tree that reaches an accepted input state."
+-- "A contract takes a tree that reaches an accepted input state."; "only trees count whose root is not symbol 0 and whose right child is
+-- symbol 0; .. a contract takes no other" (W-202)
 pub record Takes (C : Contract) (t : Tree) : Type 0 where
+  pub oneRoot : OneRoot t
   pub state : ℕ
   pub isState : state < C .input .states
   pub accepted : markAt (C .input .marks) state ≡ 1

@@ -9,16 +9,17 @@ use Rattle.model.specs.Tables.{Contract}
 use Rattle.model.specs.Answers.{Verdict, refuseIf, _then_, Answer, judged, refusal, given}
 use Rattle.model.specs.Admission.{admission}
 use Rattle.model.specs.Documents.{numbersTaken, leadingTree, leadingVerdict}
-use Rattle.model.specs.Kinds.{kindOf, ofInputType, breaks}
+use Rattle.model.specs.Kinds.{kindOf, isTaken, breaks}
 
 pub record Judged : Type 0 where
   pub answer : Answer
   pub words : List ℕ
 
 module _ (C : Contract) where
-  -- "0, not of the input type; 1, of it with no output outside the output type; 2, of it with such an output"
+  -- "0, not of the input type; 1, of it with no output outside the output type; 2, of it with such an output"; "judging gives 0 for any
+  -- other tree" than one of one root
   unfoldable pub judgement : List ℕ → ℕ
-  judgement kind = choose (ofInputType C kind) (choose (breaks C kind) 2 1) 0
+  judgement kind = choose (isTaken C kind) (choose (breaks C kind) 2 1) 0
 
   -- "1 to 8; then 9, the kind buffer is not five words (place 0); 11, ..; 12, .."
   unfoldable pub judgingVerdict : (numbers buffer : List ℕ) → Verdict

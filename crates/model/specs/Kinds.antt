@@ -1,10 +1,11 @@
--- Kinds: five 64-bit words that say which input states a tree reaches and which facts hold of it.
+-- Kinds: five 64-bit words that say which input states a tree reaches, whether it has one root or is empty, and which facts hold of
+-- it.
 use mathlib.Core.List.{List, [], _∷_}
-use mathlib.Core.Bool.{Bool}
-use Prim.Native.Nat.{ℕ, _+_, _/_, _%_}
+use mathlib.Core.Bool.{Bool, true, false}
+use Prim.Native.Nat.{ℕ, _+_, _*_, _/_, _%_, _^_}
 use lib.ListN.{getD}
 use Rattle.foundation.specs.Tests.{someBelow, _and_, same}
-use Rattle.foundation.specs.Words.{bit, word}
+use Rattle.foundation.specs.Words.{bit, word, one-if}
 use Rattle.model.specs.Trees.{Tree, empty, node}
 use Rattle.model.specs.Tables.{Contract, InputType, inputRow, inputRowCount, markAt}
 use Rattle.model.specs.Facts.{FactSet, noFacts, onSide, factsAt, factNumber, numbered}
@@ -24,15 +25,42 @@ reachedNext X s leftReaches rightReaches q =
     and leftReaches (inputRow (X .rows) r .left)
     and rightReaches (inputRow (X .rows) r .right))
 
+-- "A kind gains two marks in word 0" (change request W-202): what is marked
+pub record RootMarks : Type 0 where
+  pub oneRoot : Bool
+  pub isEmpty : Bool
+
+-- of the empty forest, and of any other tree by those of its right child: it has one root if its "right child is symbol 0"
+abbrev pub emptyMarks : RootMarks
+emptyMarks = record { oneRoot = false; isEmpty = true }
+
+abbrev pub marksOver : (right : RootMarks) → RootMarks
+marksOver right = record { oneRoot = right .isEmpty; isEmpty = false }
+
+-- "bit 32 set if the tree has one root, bit 33 if it is empty"
+abbrev pub rootBit : ℕ
+rootBit = 32
+
+abbrev pub emptyBit : ℕ
+emptyBit = 33
+
+-- the bits of the input states, with the marks
+unfoldable pub withMarks : RootMarks → (states : ℕ) → ℕ
+withMarks marks states = states + one-if (marks .oneRoot) * 2 ^ rootBit + one-if (marks .isEmpty) * 2 ^ emptyBit
+
+-- what the words of a kind mark
+unfoldable pub marksIn : List ℕ → RootMarks
+marksIn kind = record { oneRoot = bit (getD kind 0 0) rootBit; isEmpty = bit (getD kind 0 0) emptyBit }
+
 module _ (C : Contract) where
   -- whether the fact of number f is in a set
   abbrev pub numberedFact : FactSet → ℕ → Bool
   numberedFact facts f = numbered (C .output .states) (C .transformation .counts) facts f
 
-  -- "word 0 has a bit for each input state the tree reaches; fact f is bit f mod 64 of word 1 + f div 64"
-  unfoldable pub kindWords : (ℕ → Bool) → FactSet → List ℕ
-  kindWords reaches facts =
-      word (C .input .states) reaches
+  -- "word 0 has a bit for each input state the tree reaches; fact f is bit f mod 64 of word 1 + f div 64"; "two marks in word 0"
+  unfoldable pub kindWords : RootMarks → (ℕ → Bool) → FactSet → List ℕ
+  kindWords marks reaches facts =
+      withMarks marks (word (C .input .states) reaches)
       ∷ word 64 (λ b. numberedFact facts b)
       ∷ word 64 (λ b. numberedFact facts (64 + b))
       ∷ word 64 (λ b. numberedFact facts (128 + b))
@@ -51,12 +79,13 @@ module _ (C : Contract) where
 
   -- the kind of the empty forest
   unfoldable pub emptyKind : List ℕ
-  emptyKind = kindWords (reachedEmpty (C .input)) (factsAt (C .transformation) (C .output) (λ c. noFacts) 0)
+  emptyKind = kindWords emptyMarks (reachedEmpty (C .input)) (factsAt (C .transformation) (C .output) (λ c. noFacts) 0)
 
   -- the kind of a symbol over two kinds
   unfoldable pub nextKind : ℕ → List ℕ → List ℕ → List ℕ
   nextKind s l r =
-      kindWords (reachedNext (C .input) s (stateIn l) (stateIn r)) (factsAt (C .transformation) (C .output) (onSide (factsIn l) (factsIn r)) s)
+      kindWords (marksOver (marksIn r)) (reachedNext (C .input) s (stateIn l) (stateIn r))
+      (factsAt (C .transformation) (C .output) (onSide (factsIn l) (factsIn r)) s)
 
   -- "The kind of a tree is five 64-bit words"
   unfoldable pub kindOf : Tree → List ℕ
@@ -71,7 +100,11 @@ module _ (C : Contract) where
   unfoldable pub hasWrongOutput : List ℕ → Bool
   hasWrongOutput kind = someBelow (C .output .states) (λ q. same (markAt (C .output .marks) q) 0 and factsIn kind 0 q [])
 
+  -- "only trees count whose root is not symbol 0 and whose right child is symbol 0; .. a contract takes no other"
+  unfoldable pub isTaken : List ℕ → Bool
+  isTaken kind = marksIn kind .oneRoot and ofInputType kind
+
   -- "A kind breaks the contract if some accepted input state is in it and some fact of procedure 0 with a state not
-  -- accepted."
+  -- accepted."; "A breaking kind also needs bit 32."
   unfoldable pub breaks : List ℕ → Bool
-  breaks kind = ofInputType kind and hasWrongOutput kind
+  breaks kind = isTaken kind and hasWrongOutput kind

@@ -6,7 +6,7 @@ use mathlib.Core.Logic.{_↔_}
 use Prim.Native.Nat.{ℕ, suc, _*_, _<_, _≤_}
 use lib.Dec.{T}
 use lib.ListN.{length, getD, take, drop, replicate}
-use Rattle.model.specs.Trees.{Tree, height, Over, preorder}
+use Rattle.model.specs.Trees.{Tree, height, Over, OneRoot, preorder}
 use Rattle.model.specs.Documents.{mostNumbers, All, preorders}
 use Rattle.model.specs.Rows.{rowCount, treeAt}
 use Rattle.model.specs.Tables.{Contract}
@@ -24,7 +24,8 @@ use Rattle.model.specs.Claims.{Takes, Breaks, Admitted}
 abbrev pub TreeOf : Contract → Tree → Type 0
 TreeOf C t = Over (C .transformation .symbols) t
 
--- "0, not of the input type; 1, of it with no output outside the output type; 2, of it with such an output"
+-- "0, not of the input type; 1, of it with no output outside the output type; 2, of it with such an output"; "0 for any other tree" than
+-- one of one root
 pub record Judges (C : Contract) (t : Tree) (result : ℕ) : Type 0 where
   pub zero : (result ≡ 0) ↔ (Takes C t → ⊥)
   pub one : (result ≡ 1) ↔ (Takes C t × (Breaks C t → ⊥))
@@ -49,6 +50,10 @@ pub record JudgingMeans (C : Contract) (numbers buffer : List ℕ) (answer : Ans
   pub judgedExactly : (result taken : ℕ) → (answer ≡ judged result taken) ↔ JudgedMeans C numbers buffer result taken
   pub kindWritten : (result taken : ℕ) → answer ≡ judged result taken → (t : Tree) → LeadingDocument (C .transformation .symbols) numbers t taken
       → words ≡ kindOf C t
+  -- "judging gives 0 for any other tree" (change request W-202): for one that has not one root
+  pub othersZero : (result taken : ℕ) → answer ≡ judged result taken → (t : Tree) → LeadingDocument (C .transformation .symbols) numbers t taken
+      → (OneRoot t → ⊥)
+      → result ≡ 0
   pub refuses : Refuses (judgingReasons C numbers buffer) (λ number place. answer ≡ refusal number place) (buffer ∷ []) (words ∷ [])
 
 -- a tree whose numbers are a document: "1 to 1,023 numbers"
@@ -133,9 +138,10 @@ pub record PassMeans (C : Contract) (L n : ℕ) : Type 0 where
   pub counted : KindCount C n
   pub withinLimit : n ≤ L
 
--- a tree that breaks the contract, and "no lower one does"
+-- a tree that breaks the contract, so that it has one root, and "no lower one does"
 pub record LeastBreaking (C : Contract) (t : Tree) : Type 0 where
   pub over : TreeOf C t
+  pub oneRoot : OneRoot t
   pub breaking : Breaks C t
   pub least : (other : Tree) → TreeOf C other → Breaks C other → height t ≤ height other
 
@@ -170,7 +176,8 @@ pub data OneOfThree (L : ℕ) (answer : Answer) : Type 0 where
 
 -- Demand 2, for checking: "A contract passes exactly if no tree of the input type has an output outside the output type and
 -- its kinds number at most the caller's limit, 512 at most. A document shown breaks the contract, and no lower one does. The
--- check stops at its limit only as document 01 says."
+-- check stops at its limit only as document 01 says."; "Pass, breaking document and least height speak of one-root trees only." (W-202),
+-- as `Takes` does, while the kinds counted are those of all trees
 pub record CheckMeans (C : Contract) (lent : Lent) : Type 0 where
   pub oneOfThree : OneOfThree (lent .limit) (checkOf C lent .answer)
   pub passExactly : (n : ℕ) → (checkOf C lent .answer ≡ pass n) ↔ PassMeans C (lent .limit) n

@@ -17,6 +17,16 @@ abbrev pub rootSymbol : Tree → ℕ
 rootSymbol empty = 0
 rootSymbol (node s l r) = s
 
+-- "trees .. whose root is not symbol 0 and whose right child is symbol 0" (change request W-202): those of one root, as a document of
+-- XML has it. Symbol 0 is `empty`; a `node` of a tree over symbols has another (`Over`).
+abbrev pub IsEmpty : Tree → Type 0
+IsEmpty empty = Unit {0}
+IsEmpty (node s l r) = ⊥
+
+abbrev pub OneRoot : Tree → Type 0
+OneRoot empty = ⊥
+OneRoot (node s l r) = IsEmpty r
+
 -- a tree over the symbols below S
 abbrev pub Over : ℕ → Tree → Type 0
 Over S empty = Unit {0}

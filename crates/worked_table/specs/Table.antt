@@ -1,8 +1,8 @@
--- X1 to X8 and X12 of document 01, X10 as W-205 answers it, document 01's sizes and false readings, the faults of nodes, and leading
--- trees, as one table; the checker computes every answer of it.
+-- X1 to X8 and X12 of document 01, as W-202 answers them, X10 as W-205 does, document 01's sizes and false readings, the faults of
+-- nodes, leading trees, and documents of no root and of two, as one table; the checker computes every answer of it.
 use mathlib.Core.Path.{_≡_, refl}
 use mathlib.Core.List.{List, [], _∷_, _++_, map}
-use Prim.Native.Nat.{ℕ, _*_}
+use Prim.Native.Nat.{ℕ, _+_, _*_}
 use lib.ListN.{replicate}
 use Rattle.foundation.specs.Tests.{_and_, _or_, same, below, someBelow}
 use Rattle.foundation.specs.Search.{first}
@@ -16,7 +16,7 @@ use Rattle.model.specs.Expressions.{expressionOf, expressionBelow, expression, 
 use Rattle.model.specs.Answers.{_then_, refuseIf, refuseFirst, refuseLowest, given, Answer, admitted, judged, pass, tree, ran, written, refusal}
 use Rattle.model.specs.Admission.{nodeFault, lowestNodeFault, sizes, lengths, inputRows, entries, counts, nodes, rules, facts, admission, admit}
 use Rattle.model.specs.Facts.{yields, factsAt, fact, digits, code, offset, factNumber, numberedFrom, numbered}
-use Rattle.model.specs.Kinds.{reachedEmpty, reachedNext, kindWords, stateIn, bitOfFact, factsIn, emptyKind, nextKind, kindOf, ofInputType, hasWrongOutput, breaks}
+use Rattle.model.specs.Kinds.{reachedEmpty, reachedNext, withMarks, marksIn, kindWords, stateIn, bitOfFact, factsIn, emptyKind, nextKind, kindOf, ofInputType, hasWrongOutput, isTaken, breaks}
 use Rattle.model.specs.Rounds.{lists, added, roundTo, round, listingFrom, listing}
 use Rattle.model.specs.Judging.{judgement, judgingVerdict, judging}
 use Rattle.model.specs.Checking.{rowNumbers, kindNumbers, standing, firstBreaking, answered, check, checkingVerdict, checking}
@@ -24,7 +24,7 @@ use Rattle.model.specs.Running.{_after_, addRow, countCall, seekRule, evaluate,
 use Rattle.model.specs.WritingOut.{writingVerdict, writingOut}
 use Rattle.worked_table.specs.Questions
 use Rattle.worked_table.specs.Questions.{Question, Reply, lent, ask}
-use Rattle.worked_table.specs.Contracts.{bothAccepted, C1, C2, C3, Sized, Noded, Silent, OneChoice, OneChild, LateSymbol}
+use Rattle.worked_table.specs.Contracts.{bothAccepted, C1, C2, C3, Sized, Noded, Silent, OneChoice, OneChild, IdleSymbol, AtMostOneRoot}
 
 pub record Case : Type 0 where
   pub contract : Contract
@@ -43,17 +43,34 @@ closed L rows words = zeroFilled (3 * L) rows ∷ zeroFilled (5 * L) words ∷ [
 abbrev pub closedRun : ℕ → List ℕ → List (List ℕ)
 closedRun n rows = zeroFilled (3 * n) rows ∷ []
 
+-- word 0 of a kind that has those input states, with bit 32 or with bit 33
+abbrev pub oneRoot : ℕ → ℕ
+oneRoot states = 4294967296 + states
+
+abbrev pub noRoot : ℕ → ℕ
+noRoot states = 8589934592 + states
+
+-- the rows of C1's kinds: the empty forest, one root, two roots
+abbrev pub threeRows : List ℕ
+threeRows = 0 ∷ 0 ∷ 0 ∷ 1 ∷ 0 ∷ 0 ∷ 1 ∷ 0 ∷ 1 ∷ []
+
+-- .. and their words, with a fact word each
+abbrev pub threeKinds : (none one two : ℕ) → List ℕ
+threeKinds none one two = noRoot 1 ∷ none ∷ 0 ∷ 0 ∷ 0 ∷ oneRoot 1 ∷ one ∷ 0 ∷ 0 ∷ 0 ∷ 1 ∷ two ∷ 0 ∷ 0 ∷ 0 ∷ []
+
 abbrev pub table : List Case
 table =
-    -- X1
-    line (C1 bothAccepted) (Questions.check 2) (pass 2) (closed 2 (0 ∷ 0 ∷ 0 ∷ 1 ∷ 0 ∷ 0 ∷ []) (1 ∷ 1 ∷ 0 ∷ 0 ∷ 0 ∷ 1 ∷ 2 ∷ 0 ∷ 0 ∷ 0 ∷ []))
+    -- X1, "refused at" its limit; and "pass with 3 at limit 3"
+    line (C1 bothAccepted) (Questions.check 2) (refusal 10 2) (closed 2 [] [])
+    ∷ line (C1 bothAccepted) (Questions.check 3) (pass 3) (closed 3 threeRows (threeKinds 1 2 2))
     -- X2
     ∷ line (C1 bothAccepted) (Questions.check 1) (refusal 10 1) (closed 1 [] [])
-    -- X3
-    ∷ line (C1 (0 ∷ 1 ∷ [])) (Questions.check 1) (tree 0) (closed 1 (0 ∷ 0 ∷ 0 ∷ []) (1 ∷ 1 ∷ 0 ∷ 0 ∷ 0 ∷ []))
+    -- X3, the same
+    ∷ line (C1 (0 ∷ 1 ∷ [])) (Questions.check 1) (refusal 10 1) (closed 1 [] [])
+    ∷ line (C1 (0 ∷ 1 ∷ [])) (Questions.check 3) (pass 3) (closed 3 threeRows (threeKinds 1 2 2))
     -- X4, and its row 1 written out
     ∷ line (C1 (1 ∷ 0 ∷ [])) (Questions.check 512) (tree 1)
-    (closed 512 (0 ∷ 0 ∷ 0 ∷ 1 ∷ 0 ∷ 0 ∷ []) (1 ∷ 1 ∷ 0 ∷ 0 ∷ 0 ∷ 1 ∷ 2 ∷ 0 ∷ 0 ∷ 0 ∷ []))
+    (closed 512 (0 ∷ 0 ∷ 0 ∷ 1 ∷ 0 ∷ 0 ∷ []) (noRoot 1 ∷ 1 ∷ 0 ∷ 0 ∷ 0 ∷ oneRoot 1 ∷ 2 ∷ 0 ∷ 0 ∷ 0 ∷ []))
     ∷ line (C1 (1 ∷ 0 ∷ [])) (Questions.writeOut (zeroFilled (3 * 512) (0 ∷ 0 ∷ 0 ∷ 1 ∷ 0 ∷ 0 ∷ [])) 1 4) (written 3) ((1 ∷ 0 ∷ 0 ∷ 7 ∷ []) ∷ [])
     -- X5
     ∷ line (C1 (1 ∷ 0 ∷ [])) (Questions.check 1) (refusal 10 1) (closed 1 [] [])
@@ -64,9 +81,15 @@ table =
     -- X8
     ∷ line C2 (Questions.run 2 (1 ∷ 0 ∷ 1 ∷ 0 ∷ 0 ∷ [])) (refusal 14 2) (closedRun 2 [])
     -- X10
-    ∷ line (C1 bothAccepted) (Questions.judge (1 ∷ 0 ∷ 0 ∷ 0 ∷ [])) (judged 1 3) ((1 ∷ 2 ∷ 0 ∷ 0 ∷ 0 ∷ []) ∷ [])
+    ∷ line (C1 bothAccepted) (Questions.judge (1 ∷ 0 ∷ 0 ∷ 0 ∷ [])) (judged 1 3) ((oneRoot 1 ∷ 2 ∷ 0 ∷ 0 ∷ 0 ∷ []) ∷ [])
     -- X12
-    ∷ line (C3 (0 ∷ 0 ∷ [])) (Questions.check 512) (pass 2) (closed 512 (0 ∷ 0 ∷ 0 ∷ 1 ∷ 0 ∷ 0 ∷ []) (1 ∷ 12 ∷ 0 ∷ 0 ∷ 0 ∷ 1 ∷ 0 ∷ 0 ∷ 0 ∷ 0 ∷ []))
+    ∷ line (C3 (0 ∷ 0 ∷ [])) (Questions.check 512) (pass 3) (closed 512 threeRows (threeKinds 12 0 0))
+    -- no root, and two, under X4's marks: not taken, though the second has an output outside the output type, as the root alone has
+    ∷ line (C1 (1 ∷ 0 ∷ [])) (Questions.judge (0 ∷ [])) (judged 0 1) ((noRoot 1 ∷ 1 ∷ 0 ∷ 0 ∷ 0 ∷ []) ∷ [])
+    ∷ line (C1 (1 ∷ 0 ∷ [])) (Questions.judge (1 ∷ 0 ∷ 1 ∷ 0 ∷ 0 ∷ [])) (judged 0 5) ((1 ∷ 2 ∷ 0 ∷ 0 ∷ 0 ∷ []) ∷ [])
+    ∷ line (C1 (1 ∷ 0 ∷ [])) (Questions.judge (1 ∷ 0 ∷ 0 ∷ [])) (judged 2 3) ((oneRoot 1 ∷ 2 ∷ 0 ∷ 0 ∷ 0 ∷ []) ∷ [])
+    -- a contract that only trees of several roots would break
+    ∷ line AtMostOneRoot (Questions.check 3) (pass 3) (closed 3 threeRows (threeKinds 1 2 4))
     -- 256 facts and 260
     ∷ line (Sized (0 ∷ 2 ∷ 2 ∷ 2 ∷ 1 ∷ 1 ∷ 1 ∷ 0 ∷ 0 ∷ 0 ∷ [])) Questions.admit admitted []
     ∷ line (Sized (0 ∷ 2 ∷ 2 ∷ 2 ∷ 1 ∷ 1 ∷ 1 ∷ 0 ∷ 0 ∷ 0 ∷ 0 ∷ [])) Questions.admit (refusal 8 260) []
@@ -91,9 +114,9 @@ table =
     ∷ line (Noded (1 ∷ 0 ∷ 0 ∷ 0 ∷ 0 ∷ 2 ∷ 1 ∷ 1 ∷ 1 ∷ 1 ∷ [])) Questions.admit (refusal 33 1) []
     ∷ line (Noded (1 ∷ 0 ∷ 0 ∷ 1 ∷ 0 ∷ 3 ∷ 0 ∷ 0 ∷ 0 ∷ 0 ∷ [])) Questions.admit (refusal 34 0) []
     -- numbers behind the tree: no symbol, in a run too; and more than 1,023 numbers
-    ∷ line (C1 bothAccepted) (Questions.judge (0 ∷ 65535 ∷ [])) (judged 1 1) ((1 ∷ 1 ∷ 0 ∷ 0 ∷ 0 ∷ []) ∷ [])
+    ∷ line (C1 bothAccepted) (Questions.judge (0 ∷ 65535 ∷ [])) (judged 0 1) ((noRoot 1 ∷ 1 ∷ 0 ∷ 0 ∷ 0 ∷ []) ∷ [])
     ∷ line C2 (Questions.run 100 (0 ∷ 65535 ∷ [])) (ran 0 1 1) (closedRun 100 (0 ∷ 0 ∷ 0 ∷ []))
-    ∷ line (C1 bothAccepted) (Questions.judge (0 ∷ replicate 1023 1)) (judged 1 1) ((1 ∷ 1 ∷ 0 ∷ 0 ∷ 0 ∷ []) ∷ [])
+    ∷ line (C1 bothAccepted) (Questions.judge (0 ∷ replicate 1023 1)) (judged 0 1) ((noRoot 1 ∷ 1 ∷ 0 ∷ 0 ∷ 0 ∷ []) ∷ [])
     -- no end: 1,023 numbers, and one more; a fault at the last place that is looked at, and at the next
     ∷ line (C1 bothAccepted) (Questions.judge (replicate 1023 1)) (refusal 12 1023) (lent 5 ∷ [])
     ∷ line (C1 bothAccepted) (Questions.judge (replicate 1024 1)) (refusal 11 1024) (lent 5 ∷ [])
@@ -101,11 +124,12 @@ table =
     ∷ line (C1 bothAccepted) (Questions.judge (replicate 1023 1 ++ (2 ∷ []))) (refusal 11 1024) (lent 5 ∷ [])
     -- the false readings: an unused argument skipped is X12; then a tree without an output, a choice anew at each use of a
     -- parameter, two calls on one child, and a round that adds nothing for one symbol
-    ∷ line Silent (Questions.check 3) (pass 1) (closed 3 (0 ∷ 0 ∷ 0 ∷ []) (1 ∷ 0 ∷ 0 ∷ 0 ∷ 0 ∷ []))
-    ∷ line OneChoice (Questions.judge (1 ∷ 0 ∷ 0 ∷ [])) (judged 1 3) ((2 ∷ 6 ∷ 0 ∷ 0 ∷ 0 ∷ []) ∷ [])
-    ∷ line OneChild (Questions.check 3) (pass 3)
-    (closed 3 (0 ∷ 0 ∷ 0 ∷ 1 ∷ 0 ∷ 0 ∷ 1 ∷ 1 ∷ 0 ∷ []) (1 ∷ 16 ∷ 0 ∷ 0 ∷ 0 ∷ 1 ∷ 34 ∷ 0 ∷ 0 ∷ 0 ∷ 1 ∷ 36 ∷ 0 ∷ 0 ∷ 0 ∷ []))
-    ∷ line LateSymbol (Questions.check 2) (tree 1) (closed 2 (0 ∷ 0 ∷ 0 ∷ 2 ∷ 0 ∷ 0 ∷ []) (1 ∷ 1 ∷ 0 ∷ 0 ∷ 0 ∷ 2 ∷ 2 ∷ 0 ∷ 0 ∷ 0 ∷ []))
+    ∷ line Silent (Questions.check 3) (pass 3) (closed 3 threeRows (threeKinds 0 0 0))
+    ∷ line OneChoice (Questions.judge (1 ∷ 0 ∷ 0 ∷ [])) (judged 1 3) ((oneRoot 2 ∷ 6 ∷ 0 ∷ 0 ∷ 0 ∷ []) ∷ [])
+    ∷ line OneChild (Questions.check 5) (pass 5)
+    (closed 5 (threeRows ++ (1 ∷ 1 ∷ 0 ∷ 1 ∷ 1 ∷ 1 ∷ [])) (threeKinds 16 34 34 ++ (oneRoot 1 ∷ 36 ∷ 0 ∷ 0 ∷ 0 ∷ 1 ∷ 36 ∷ 0 ∷ 0 ∷ 0 ∷ [])))
+    ∷ line IdleSymbol (Questions.check 4) (tree 3)
+    (closed 4 (threeRows ++ (1 ∷ 1 ∷ 0 ∷ [])) (threeKinds 1 2 2 ++ (oneRoot 1 ∷ 4 ∷ 0 ∷ 0 ∷ 0 ∷ [])))
     ∷ []
 
 -- one name that opens every definition, for computing
@@ -115,7 +139,7 @@ unfolding _and_ _or_ same below someBelow first bit word zeroFilled sameList
     expressionOf expressionBelow expression greatestParameter holdsCall _then_ refuseIf refuseFirst refuseLowest nodeFault lowestNodeFault given
     sizes lengths inputRows entries counts nodes rules facts admission admit
     yields factsAt fact digits code offset factNumber numberedFrom numbered
-    reachedEmpty reachedNext kindWords stateIn bitOfFact factsIn emptyKind nextKind kindOf ofInputType hasWrongOutput breaks
+    reachedEmpty reachedNext withMarks marksIn kindWords stateIn bitOfFact factsIn emptyKind nextKind kindOf ofInputType hasWrongOutput isTaken breaks
     lists added roundTo round listingFrom listing judgement judgingVerdict judging
     rowNumbers kindNumbers standing firstBreaking answered check checkingVerdict checking
     _after_ addRow countCall seekRule evaluate runAt runOn run closing runningVerdict running writingVerdict writingOut ask

@@ -5,14 +5,14 @@ use borrow.Author.Needs.{needs}
 use Rattle.breaking.proofs.breaks.Statement.{statement}
 use Rattle.breaking.proofs.breaks.Tie as tie
 
-of-input-type-requires : tie.Need-of-input-type-requires
-of-input-type-requires c κs = search needs
+is-taken-requires : tie.Need-is-taken-requires
+is-taken-requires c κs = search needs
 
 has-wrong-output-requires : tie.Need-has-wrong-output-requires
 has-wrong-output-requires c κs = search needs
 
 returns : tie.Need-returns
-returns c = ap₂ _&&_ (c .before .of-input-type .ensures) (c .has-wrong-output .ensures)
+returns c = ap₂ _&&_ (c .before .is-taken .ensures) (c .has-wrong-output .ensures)
 
 pub breaks-spec : {M : Type 1} → statement M
-breaks-spec = tie.close (tie.spec of-input-type-requires has-wrong-output-requires returns)
+breaks-spec = tie.close (tie.spec is-taken-requires has-wrong-output-requires returns)

@@ -4,7 +4,7 @@ use mathlib.Core.Path.{_≡_, refl, ap, ap₂, subst, sym, _∙_}
 use mathlib.Core.List.{List, [], _∷_}
 use mathlib.Core.Bool.{Bool, false}
 use Prim.Native.Nat.{ℕ, zero, suc, _+_, _*_, _-_, _/_, _%_, _^_, _<_, _≤_}
-use native.Mathlib.Nat.{not-suc-le-zero, le-of-suc-le-suc, zero-add, add-zero, pow-suc, pow-zero, mul-comm, mod-lt, div-lt-iff-lt-mul, div-add-mod', lt-of-lt-of-le, div-eq-of-lt}
+use native.Mathlib.Nat.{not-suc-le-zero, le-of-suc-le-suc, zero-add, add-zero, pow-suc, pow-zero, mul-comm, mod-lt, div-lt-iff-lt-mul, div-add-mod', lt-of-lt-of-le}
 use native.Mathlib.Omega.{arith}
 use native.Mathlib.Decide.{decLt}
 use borrow.Author.Tests.{lt-ltb, le-ltb}
@@ -14,12 +14,14 @@ use lib.Dec.{T}
 use lib.ListN.{length, getD}
 use Rattle.foundation.specs.Tests.{_and_, same, and-left, and-right, and-both, same-eq, eq-same, some-cong}
 use Rattle.foundation.specs.Lists.{sameList, same-list-eq, same-list-refl}
+use Rattle.foundation.specs.Bits.{bit-high}
 use Rattle.foundation.specs.Words.{bit, word, bit-word, word-lt, word-cong}
 use Rattle.model.specs.Tables.{Contract, Transformation, OutputType, countOf, nodeAt, nodeCount, ruleAt, ruleCount}
 use Rattle.model.specs.Expressions.{Child, left, right, Expression, parameter, nothing, symbol, call, Arguments, none, argument, argumentsOf, expression}
 use Rattle.model.specs.Outputs.{rightSide}
 use Rattle.model.specs.Facts.{FactSet, onSide, yields, yieldsAll, factsAt, digits, code, offset, factTotal, factNumber, numberedFrom, numbered}
-use Rattle.model.specs.Kinds.{numberedFact, kindWords, stateIn, bitOfFact, factsIn}
+use Rattle.model.specs.Kinds.{RootMarks, rootBit, emptyBit, withMarks, marksIn, numberedFact, kindWords, stateIn, bitOfFact, factsIn}
+use Rattle.model.proofs.Laws.RootMarks.{with-marks-lt, state-beside-marks, root-bit, empty-bit, no-bit-above-marks}
 use Rattle.model.proofs.Laws.Established.{Established, GoodNode, good-parameter, good-nothing, good-symbol, good-call}
 use Rattle.model.proofs.Laws.Expressions.{expression-parameter, expression-nothing, expression-symbol, expression-call}
 
@@ -45,13 +47,6 @@ pub record SameFact (p q : ℕ) (qs : List ℕ) (p′ q′ : ℕ) (qs′ : List 
 factor-positive : (a b n : ℕ) → n < a * b → 0 < a
 factor-positive zero b n h = absurd (omega arith)
 factor-positive (suc a) b n h = omega arith
-
--- a word made of n tests has no bit above
-bit-above : (n : ℕ) (f : ℕ → Bool) (i : ℕ) → n ≤ i → bit (word n f) i ≡ false
-unfolding bit
-bit-above n f i h =
-    let l : word n f < 2 ^ i = lt-of-lt-of-le (word-lt n f) (pow-mono h) in
-    rw (div-eq-of-lt l)
 
 module _ (O : ℕ) where
   -- the code of k states is below O^k, and its digits are the states
@@ -236,19 +231,45 @@ factCount C = factTotal (C .output .states) (C .transformation .counts)
 abbrev pub SameFactsOf : Contract → FactSet → FactSet → Type 0
 SameFactsOf C facts facts′ = SameFacts (C .output .states) (C .transformation .counts) facts facts′
 
-module _ (C : Contract) (reaches : ℕ → Bool) (facts : FactSet) where
-  -- "word 0 has a bit for each input state the tree reaches"
-  pub state-in-words : (q : ℕ) → q < C .input .states → stateIn C (kindWords C reaches facts) q ≡ reaches q
-  unfolding stateIn kindWords
-  state-in-words q h = bit-word (C .input .states) reaches q h
+module _ (C : Contract) (marks : RootMarks) (reaches : ℕ → Bool) (facts : FactSet) where
+  -- at most 32 input states leave the bits of the marks free
+  module _ (few : C .input .states ≤ 32) where
+    states-below-marks : word (C .input .states) reaches < 2 ^ rootBit
+    states-below-marks = lt-of-lt-of-le (word-lt (C .input .states) reaches) (pow-mono few)
 
-  -- and no other bit
-  pub no-state-in-words : (q : ℕ) → C .input .states ≤ q → stateIn C (kindWords C reaches facts) q ≡ false
-  unfolding stateIn kindWords
-  no-state-in-words q h = bit-above (C .input .states) reaches q h
+    -- "word 0 has a bit for each input state the tree reaches"
+    pub state-in-words : (q : ℕ) → q < C .input .states → stateIn C (kindWords C marks reaches facts) q ≡ reaches q
+    unfolding stateIn kindWords
+    state-in-words q h =
+        state-beside-marks marks _ states-below-marks q (omega arith) ∙ bit-word (C .input .states) reaches q h
+
+    -- "two marks in word 0"
+    pub marks-in-words : marksIn (kindWords C marks reaches facts) ≡ marks
+    unfolding marksIn kindWords
+    marks-in-words =
+        ap₂ (λ (one none : Bool). record { oneRoot = one; isEmpty = none }) (root-bit marks _ states-below-marks) (empty-bit marks _ states-below-marks)
+
+    -- and no other bit
+    pub no-state-in-words : (q : ℕ) → C .input .states ≤ q → (q ≡ rootBit → ⊥) → (q ≡ emptyBit → ⊥) → stateIn C (kindWords C marks reaches facts) q ≡ false
+    unfolding stateIn kindWords
+    no-state-in-words q h not-root not-empty = go (decLt q rootBit)
+      where
+        go : Dec (q < rootBit) → bit (withMarks marks (word (C .input .states) reaches)) q ≡ false
+        go (yes l) =
+            state-beside-marks marks _ states-below-marks q l ∙ bit-high (word (C .input .states) reaches) (C .input .states) q (word-lt (C .input .states) reaches) h
+        go (no l) = no-bit-above-marks marks _ states-below-marks q (omega arith)
+
+    pub words-below : (j : ℕ) → getD (kindWords C marks reaches facts) j 0 < 2 ^ 64
+    unfolding kindWords
+    words-below zero = lt-of-lt-of-le (with-marks-lt marks _ states-below-marks) (pow-mono {i = 34} {j = 64} (omega arith))
+    words-below (suc zero) = word-lt 64 (λ b. numberedFact C facts b)
+    words-below (suc (suc zero)) = word-lt 64 (λ b. numberedFact C facts (64 + b))
+    words-below (suc (suc (suc zero))) = word-lt 64 (λ b. numberedFact C facts (128 + b))
+    words-below (suc (suc (suc (suc zero)))) = word-lt 64 (λ b. numberedFact C facts (192 + b))
+    words-below (suc (suc (suc (suc (suc j))))) = pow-pos 64
 
   -- "fact f is bit f mod 64 of word 1 + f div 64"
-  pub fact-bit-in-words : (f : ℕ) → f < 256 → bitOfFact C (kindWords C reaches facts) f ≡ numberedFact C facts f
+  pub fact-bit-in-words : (f : ℕ) → f < 256 → bitOfFact C (kindWords C marks reaches facts) f ≡ numberedFact C facts f
   unfolding bitOfFact kindWords
   fact-bit-in-words f h = go (f / 64) refl
     where
@@ -259,7 +280,7 @@ module _ (C : Contract) (reaches : ℕ → Bool) (facts : FactSet) where
       at-word : (start : ℕ) → start + f % 64 ≡ f → bit (word 64 (λ i. numberedFact C facts (start + i))) (f % 64) ≡ numberedFact C facts f
       at-word start e = bit-word 64 (λ i. numberedFact C facts (start + i)) (f % 64) b ∙ ap (numberedFact C facts) e
 
-      go : (n : ℕ) → f / 64 ≡ n → bit (getD (kindWords C reaches facts) (1 + f / 64) 0) (f % 64) ≡ numberedFact C facts f
+      go : (n : ℕ) → f / 64 ≡ n → bit (getD (kindWords C marks reaches facts) (1 + f / 64) 0) (f % 64) ≡ numberedFact C facts f
       go zero e = rw e (bit-word 64 (λ i. numberedFact C facts i) (f % 64) b ∙ ap (numberedFact C facts) (omega arith))
       go (suc zero) e = rw e (at-word 64 (omega arith))
       go (suc (suc zero)) e = rw e (at-word 128 (omega arith))
@@ -267,7 +288,7 @@ module _ (C : Contract) (reaches : ℕ → Bool) (facts : FactSet) where
       go (suc (suc (suc (suc n)))) e = absurd (omega arith)
 
   -- the words hold the facts, and no other bit
-  pub facts-in-words : factCount C ≤ 256 → SameFactsOf C (factsIn C (kindWords C reaches facts)) facts
+  pub facts-in-words : factCount C ≤ 256 → SameFactsOf C (factsIn C (kindWords C marks reaches facts)) facts
   unfolding factsIn
   facts-in-words few =
       record {
@@ -277,30 +298,22 @@ module _ (C : Contract) (reaches : ℕ → Bool) (facts : FactSet) where
             ∙ numbered-fact (C .output .states) (C .transformation .counts) p q qs is facts;
       }
 
-  pub no-fact-in-words : (f : ℕ) → factCount C ≤ f → f < 256 → bitOfFact C (kindWords C reaches facts) f ≡ false
+  pub no-fact-in-words : (f : ℕ) → factCount C ≤ f → f < 256 → bitOfFact C (kindWords C marks reaches facts) f ≡ false
   no-fact-in-words f h l = fact-bit-in-words f l ∙ numbered-none (C .output .states) (C .transformation .counts) facts f h
 
   -- "five 64-bit words"
-  pub length-words : length (kindWords C reaches facts) ≡ 5
+  pub length-words : length (kindWords C marks reaches facts) ≡ 5
   unfolding kindWords
   length-words = refl
 
-  pub words-below : C .input .states ≤ 64 → (j : ℕ) → getD (kindWords C reaches facts) j 0 < 2 ^ 64
-  unfolding kindWords
-  words-below h zero = lt-of-lt-of-le (word-lt (C .input .states) reaches) (pow-mono h)
-  words-below h (suc zero) = word-lt 64 (λ b. numberedFact C facts b)
-  words-below h (suc (suc zero)) = word-lt 64 (λ b. numberedFact C facts (64 + b))
-  words-below h (suc (suc (suc zero))) = word-lt 64 (λ b. numberedFact C facts (128 + b))
-  words-below h (suc (suc (suc (suc zero)))) = word-lt 64 (λ b. numberedFact C facts (192 + b))
-  words-below h (suc (suc (suc (suc (suc j))))) = pow-pos 64
-
--- the words depend on the states and on the facts alone
-pub words-same : (C : Contract) (reaches reaches′ : ℕ → Bool) (facts facts′ : FactSet) → ((q : ℕ) → q < C .input .states → reaches q ≡ reaches′ q)
+-- the words depend on the marks, on the states and on the facts alone
+pub words-same : (C : Contract) {marks marks′ : RootMarks} (reaches reaches′ : ℕ → Bool) (facts facts′ : FactSet) → marks ≡ marks′
+    → ((q : ℕ) → q < C .input .states → reaches q ≡ reaches′ q)
     → SameFactsOf C facts facts′
-    → kindWords C reaches facts ≡ kindWords C reaches′ facts′
+    → kindWords C marks reaches facts ≡ kindWords C marks′ reaches′ facts′
 unfolding kindWords
-words-same C reaches reaches′ facts facts′ r s =
-    ap₂ _∷_ (word-cong (C .input .states) reaches reaches′ r)
+words-same C reaches reaches′ facts facts′ m r s =
+    ap₂ _∷_ (ap₂ withMarks m (word-cong (C .input .states) reaches reaches′ r))
     (ap₂ _∷_ (facts-word (λ b. b)) (ap₂ _∷_ (facts-word (λ b. 64 + b)) (ap₂ _∷_ (facts-word (λ b. 128 + b)) (ap₂ _∷_ (facts-word (λ b. 192 + b)) refl))))
   where
     facts-word : (place : ℕ → ℕ) → word 64 (λ b. numberedFact C facts (place b)) ≡ word 64 (λ b. numberedFact C facts′ (place b))

@@ -158,6 +158,7 @@ module _ (C : Contract) (breaksExactly : (t : Tree) → TreeOf C t → T (breaks
   first-breaking-least h j l b none =
       record {
         over = rounds-stand-for (kindAutomaton C) h j l .over;
+        oneRoot = row-breaks h j l .0 (true-test _ b) .taken .oneRoot;
         breaking = row-breaks h j l .0 (true-test _ b);
         least = λ other over other-breaks.
             first-row-least (kindAutomaton C) (kinds-decided C) (λ kind. T (breaks C kind)) h j l

@@ -9,13 +9,13 @@ use lib.Dec.{eqb}
 use lib.ListN.{length, drop}
 use lib.Seq.{drop-append-seam}
 use Rattle.foundation.specs.Tests.{choose}
-use Rattle.model.specs.Trees.{Tree, preorder}
+use Rattle.model.specs.Trees.{Tree, OneRoot, preorder}
 use Rattle.model.specs.Tables.{Contract}
 use Rattle.model.specs.Documents.{preorders, numbersTaken, leadingTree}
 use Rattle.model.specs.Answers as answers
 use Rattle.model.specs.Answers.{Verdict, fine, refuseIf, _then_, judged, refusal, takenByAnswer, given}
 use Rattle.model.specs.Admission.{admission}
-use Rattle.model.specs.Kinds.{kindOf, ofInputType, breaks}
+use Rattle.model.specs.Kinds.{kindOf, isTaken, breaks}
 use Rattle.model.specs.Judging.{Judged, judgement, judgingVerdict, judging}
 use Rattle.model.specs.Refusals.{LeadingDocument, ReadsLeading}
 use Rattle.model.specs.Claims.{Admitted}
@@ -30,7 +30,7 @@ use Rattle.model.proofs.Meaning.Refusals.{operation-refusals}
 -- a tree has one result
 judgement-few : (C : Contract) (kind : List ℕ) → judgement C kind ≤ 2
 unfolding judgement
-judgement-few C kind = go (ofInputType C kind) (breaks C kind)
+judgement-few C kind = go (isTaken C kind) (breaks C kind)
   where
     go : (a b : Bool) → choose a (choose b 2 1) 0 ≤ 2
     go true true = omega arith
@@ -116,6 +116,7 @@ module _ (C : Contract) (numbers buffer : List ℕ) where
         judgedOrRefused = one-of (judgingVerdict C numbers buffer) refl;
         judgedExactly = λ r n. (to r n, from r n);
         kindWritten = λ r n e t d. ap (λ (j : Judged). j .words) (judged-document (to r n e .isAdmitted) (to r n e .fiveWords) t n d);
+        othersZero = others;
         refuses = operation-refusals .ofJudging C numbers buffer;
       }
     where
@@ -134,6 +135,14 @@ module _ (C : Contract) (numbers buffer : List ℕ) where
           ap (λ (j : Judged). j .answer) (judged-document (m .isAdmitted) (m .fiveWords) t n d)
           ∙ ap (λ (k : ℕ). judged k n)
           (judges-same C t _ r (judgement-few C (kindOf C t)) (judgement-exactly C (established C (m .isAdmitted)) t) (m .judges))
+
+      others : (r n : ℕ) → answered .answer ≡ judged r n → (t : Tree) → LeadingDocument S numbers t n → (OneRoot t → ⊥) → r ≡ 0
+      others r n e t d not-one =
+          let m : JudgedMeans C numbers buffer r n = to r n e in
+          let is : judged (judgement C (kindOf C t)) n ≡ judged r n =
+          sym (ap (λ (j : Judged). j .answer) (judged-document (m .isAdmitted) (m .fiveWords) t n d)) ∙ e in
+          let same : judgement C (kindOf C t) ≡ r = cc in
+          rw same at (judgement-exactly C (established C (m .isAdmitted)) t .zero .1 (λ taken. not-one (taken .oneRoot)))
 
       one-of : (v : Verdict) → judgingVerdict C numbers buffer ≡ v → JudgedOrRefused (answered .answer)
       one-of fine e = is-judged result (numbersTaken S numbers) (ap (λ (j : Judged). j .answer) (passed e))

@@ -1,5 +1,5 @@
--- What the kind of a tree says of the tree: the input states reached, the facts that hold, and whether the tree breaks the
--- contract. Each bit is shown to be what document 01 says that it stands for.
+-- What the kind of a tree says of the tree: the input states reached, whether it has one root or is empty, the facts that hold, and
+-- whether the tree breaks the contract. Each bit is shown to be what document 01 says that it stands for.
 use mathlib.Core.Path.{_≡_, refl, ap, ap₂, subst, sym, _∙_}
 use mathlib.Core.List.{List, []}
 use mathlib.Core.Bool.{Bool, true, false}
@@ -9,17 +9,17 @@ use native.Mathlib.Omega.{arith}
 use lib.Dec.{T}
 use lib.ListN.{length, getD}
 use Rattle.foundation.specs.Tests.{choose, and-left, and-right, and-both, same-eq, eq-same, some-intro, some-elim, test-ext}
-use Rattle.model.specs.Trees.{Tree, empty, node}
+use Rattle.model.specs.Trees.{Tree, empty, node, IsEmpty, OneRoot}
 use Rattle.model.specs.Tables.{Contract, InputType, inputRow, inputRowCount, markAt}
 use Rattle.model.specs.Expressions.{left, right}
 use Rattle.model.specs.Outputs.{Output}
 use Rattle.model.specs.Facts.{FactSet, fact, FactHolds, stateOf}
-use Rattle.model.specs.Kinds.{reachedEmpty, reachedNext, kindWords, stateIn, bitOfFact, factsIn, emptyKind, nextKind, kindOf, ofInputType, hasWrongOutput, breaks}
+use Rattle.model.specs.Kinds.{RootMarks, emptyMarks, marksOver, rootBit, emptyBit, marksIn, reachedEmpty, reachedNext, kindWords, stateIn, bitOfFact, factsIn, emptyKind, nextKind, kindOf, ofInputType, hasWrongOutput, isTaken, breaks}
 use Rattle.model.specs.Judging.{judgement}
 use Rattle.model.specs.Claims.{Reaches, Takes, Allows, Breaks}
 use Rattle.model.specs.Meaning.{Judges}
 use Rattle.model.proofs.Laws.Established.{Established}
-use Rattle.model.proofs.Laws.Facts.{FactOf, factCount, SameFactsOf, same-facts-chain, same-facts-sides, state-in-words, no-state-in-words, facts-in-words, no-fact-in-words, length-words, words-below, words-same, facts-at-same, right-side-well-formed}
+use Rattle.model.proofs.Laws.Facts.{FactOf, factCount, SameFactsOf, same-facts-chain, same-facts-sides, state-in-words, marks-in-words, no-state-in-words, facts-in-words, no-fact-in-words, length-words, words-below, words-same, facts-at-same, right-side-well-formed}
 use Rattle.model.proofs.Meaning.Facts.{fact-holds, fact-output, state-of-below}
 
 -- one equivalence after another
@@ -83,23 +83,50 @@ pub record WrongOutput (C : Contract) (t : Tree) : Type 0 where
   pub isOutput : Output (C .transformation) 0 t [] output
   pub notAllowed : Allows C output → ⊥
 
--- two trees reach the same input states, and the same facts hold of them
+-- what is marked holds of the tree
+pub record Marked (t : Tree) (marks : RootMarks) : Type 0 where
+  pub oneRoot : T (marks .oneRoot) ↔ OneRoot t
+  pub isEmpty : T (marks .isEmpty) ↔ IsEmpty t
+
+marked-empty : Marked empty emptyMarks
+marked-empty = record { oneRoot = (λ x. x, λ x. x); isEmpty = (λ x. x, λ x. x) }
+
+marked-over : (s : ℕ) (l r : Tree) (marks : RootMarks) → Marked r marks → Marked (node s l r) (marksOver marks)
+marked-over s l r marks m = record { oneRoot = m .isEmpty; isEmpty = (λ x. x, λ x. x) }
+
+-- a tree is marked in one way
+marked-same : (t : Tree) (marks marks′ : RootMarks) → Marked t marks → Marked t marks′ → marks ≡ marks′
+marked-same t marks marks′ m n =
+    ap₂ (λ (one none : Bool). record { oneRoot = one; isEmpty = none }) (tests-equal (m .oneRoot) (n .oneRoot)) (tests-equal (m .isEmpty) (n .isEmpty))
+
+-- two trees reach the same input states, both have one root or neither, both are empty or neither, and the same facts hold of them
 pub record Alike (C : Contract) (t t′ : Tree) : Type 0 where
+  pub oneRoot : OneRoot t ↔ OneRoot t′
+  pub isEmpty : IsEmpty t ↔ IsEmpty t′
   pub states : (q : ℕ) → q < C .input .states → Reaches (C .input) t q ↔ Reaches (C .input) t′ q
   pub facts : (p q : ℕ) (qs : List ℕ) → FactOf C p q qs
       → FactHolds (C .transformation) (C .output) t p q qs
       ↔ FactHolds (C .transformation) (C .output) t′ p q qs
 
 module _ (C : Contract) (known : Established C) where
+  few-states : C .input .states ≤ 32
+  few-states = known .inputStates .≤most
+
   -- "word 0 has a bit for each input state the tree reaches"
   pub kind-states : (t : Tree) (q : ℕ) → q < C .input .states → T (stateIn C (kindOf C t) q) ↔ Reaches (C .input) t q
   unfolding kindOf emptyKind nextKind
-  kind-states empty q h = chain (test-iff (state-in-words C _ _ q h)) (reached-empty (C .input) q)
+  kind-states empty q h = chain (test-iff (state-in-words C _ _ _ few-states q h)) (reached-empty (C .input) q)
   kind-states (node s l r) q h =
-      chain (test-iff (state-in-words C _ _ q h))
+      chain (test-iff (state-in-words C _ _ _ few-states q h))
       (reached-node (C .input) s l r (stateIn C (kindOf C l)) (stateIn C (kindOf C r)) (λ i hi. kind-states l _ (known .inputRow i hi .left))
       (λ i hi. kind-states r _ (known .inputRow i hi .right))
       q)
+
+  -- "bit 32 set if the tree has one root, bit 33 if it is empty"
+  pub kind-marks : (t : Tree) → Marked t (marksIn (kindOf C t))
+  unfolding kindOf emptyKind nextKind
+  kind-marks empty = subst (Marked empty) (sym (marks-in-words C _ _ _ few-states)) marked-empty
+  kind-marks (node s l r) = subst (Marked (node s l r)) (sym (marks-in-words C _ _ _ few-states)) (marked-over s l r _ (kind-marks r))
 
   -- every state reached is an input state, so that word 0 has room for it
   pub reached-is-state : (t : Tree) (q : ℕ) → Reaches (C .input) t q → q < C .input .states
@@ -109,9 +136,9 @@ module _ (C : Contract) (known : Established C) where
   -- the facts in a kind are those of the tree
   kind-same-facts : (t : Tree) → SameFactsOf C (factsIn C (kindOf C t)) (fact (C .transformation) (C .output) t)
   unfolding kindOf emptyKind nextKind fact
-  kind-same-facts empty = facts-in-words C _ _ (known .facts)
+  kind-same-facts empty = facts-in-words C _ _ _ (known .facts)
   kind-same-facts (node s l r) =
-      same-facts-chain (C .output .states) (C .transformation .counts) (facts-in-words C _ _ (known .facts))
+      same-facts-chain (C .output .states) (C .transformation .counts) (facts-in-words C _ _ _ (known .facts))
       (facts-at-same (C .transformation) (C .output) _ _
       (same-facts-sides (C .output .states) (C .transformation .counts) (kind-same-facts l) (kind-same-facts r))
       (right-side-well-formed C known)
@@ -127,70 +154,96 @@ module _ (C : Contract) (known : Established C) where
       → T (factsIn C (kindOf C t) p q qs) ↔ FactHolds (C .transformation) (C .output) t p q qs
   kind-facts-hold t p q qs is = chain (test-iff (kind-facts t p q qs is)) (fact-holds C known t p q qs (is .parameters))
 
-  -- a kind is the words of some states and facts, so that no bit stands for anything else
-  kind-made : (t : Tree) → (reaches : ℕ → Bool) × (facts : FactSet) × (kindOf C t ≡ kindWords C reaches facts)
-  unfolding kindOf emptyKind nextKind
-  kind-made empty = (_, _, refl)
-  kind-made (node s l r) = (_, _, refl)
+  -- a kind is the words of some marks, states and facts, so that no bit stands for anything else
+  record Made (t : Tree) : Type 0 where
+    marks : RootMarks
+    reaches : ℕ → Bool
+    facts : FactSet
+    words : kindOf C t ≡ kindWords C marks reaches facts
 
-  pub kind-no-other-state : (t : Tree) (q : ℕ) → C .input .states ≤ q → stateIn C (kindOf C t) q ≡ false
-  kind-no-other-state t q h = let (reaches, facts, e) = kind-made t in rw e (no-state-in-words C reaches facts q h)
+  kind-made : (t : Tree) → Made t
+  unfolding kindOf emptyKind nextKind
+  kind-made empty = record { marks = _; reaches = _; facts = _; words = refl }
+  kind-made (node s l r) = record { marks = _; reaches = _; facts = _; words = refl }
+
+  pub kind-no-other-state : (t : Tree) (q : ℕ) → C .input .states ≤ q → (q ≡ rootBit → ⊥) → (q ≡ emptyBit → ⊥) → stateIn C (kindOf C t) q ≡ false
+  kind-no-other-state t q h not-root not-empty =
+      let made : Made t = kind-made t in
+      rw (made .words) (no-state-in-words C (made .marks) (made .reaches) (made .facts) few-states q h not-root not-empty)
 
   pub kind-no-other-fact : (t : Tree) (f : ℕ) → factCount C ≤ f → f < 256
       → bitOfFact C (kindOf C t) f ≡ false
-  kind-no-other-fact t f h l = let (reaches, facts, e) = kind-made t in rw e (no-fact-in-words C reaches facts f h l)
+  kind-no-other-fact t f h l = let made : Made t = kind-made t in rw (made .words) (no-fact-in-words C (made .marks) (made .reaches) (made .facts) f h l)
 
   -- "The kind of a tree is five 64-bit words"
   pub kind-five : (t : Tree) → length (kindOf C t) ≡ 5
-  kind-five t = let (reaches, facts, e) = kind-made t in rw e (length-words C reaches facts)
+  kind-five t = let made : Made t = kind-made t in rw (made .words) (length-words C (made .marks) (made .reaches) (made .facts))
 
   pub kind-words : (t : Tree) (j : ℕ) → getD (kindOf C t) j 0 < 2 ^ 64
-  kind-words t j = let (reaches, facts, e) = kind-made t in rw e (words-below C reaches facts (omega (arith, known .inputStates)) j)
+  kind-words t j = let made : Made t = kind-made t in rw (made .words) (words-below C (made .marks) (made .reaches) (made .facts) few-states j)
 
-  -- so it is the one list of words whose bits are the states that the tree reaches and the facts that hold of it
-  pub kind-determined : (t : Tree) (reaches : ℕ → Bool) (facts : FactSet)
+  -- so it is the one list of words whose bits are the states that the tree reaches, the marks of its roots and the facts that hold of it
+  pub kind-determined : (t : Tree) (marks : RootMarks) (reaches : ℕ → Bool) (facts : FactSet)
+      → Marked t marks
       → ((q : ℕ) → q < C .input .states → T (reaches q) ↔ Reaches (C .input) t q)
       → ((p q : ℕ) (qs : List ℕ) → FactOf C p q qs → T (facts p q qs) ↔ FactHolds (C .transformation) (C .output) t p q qs)
-      → kindOf C t ≡ kindWords C reaches facts
-  kind-determined t reaches facts states hold =
-      let (reaches′, facts′, e) = kind-made t in
-      e
-      ∙ words-same C reaches′ reaches facts′ facts
-      (λ q h. sym (state-in-words C reaches′ facts′ q h) ∙ ap (λ (k : List ℕ). stateIn C k q) (sym e) ∙ tests-equal (kind-states t q h) (states q h))
+      → kindOf C t ≡ kindWords C marks reaches facts
+  kind-determined t marks reaches facts marked states hold =
+      let made : Made t = kind-made t in
+      let own : marksIn (kindOf C t) ≡ made .marks =
+      ap marksIn (made .words) ∙ marks-in-words C (made .marks) (made .reaches) (made .facts) few-states in
+      made .words
+      ∙ words-same C (made .reaches) reaches (made .facts) facts
+      (marked-same t (made .marks) marks (subst (Marked t) own (kind-marks t)) marked)
+      (λ q h.
+      sym (state-in-words C (made .marks) (made .reaches) (made .facts) few-states q h)
+      ∙ ap (λ (k : List ℕ). stateIn C k q) (sym (made .words))
+      ∙ tests-equal (kind-states t q h) (states q h))
       (record {
         at = λ p q qs is.
-            sym (facts-in-words C reaches′ facts′ (known .facts) .at p q qs is)
-            ∙ ap (λ (k : List ℕ). factsIn C k p q qs) (sym e)
+            sym (facts-in-words C (made .marks) (made .reaches) (made .facts) (known .facts) .at p q qs is)
+            ∙ ap (λ (k : List ℕ). factsIn C k p q qs) (sym (made .words))
             ∙ tests-equal (kind-facts-hold t p q qs is) (hold p q qs is);
       })
 
-  -- trees are of one kind exactly if they reach the same input states and the same facts hold of them
+  -- trees are of one kind exactly if they are alike
   pub same-kind-exactly : (t t′ : Tree) → (kindOf C t ≡ kindOf C t′) ↔ Alike C t t′
   same-kind-exactly t t′ = (
     λ e.
         record {
+          oneRoot = chain (turn (kind-marks t .oneRoot)) (chain (test-iff (ap (λ (k : List ℕ). marksIn k .oneRoot) e)) (kind-marks t′ .oneRoot));
+          isEmpty = chain (turn (kind-marks t .isEmpty)) (chain (test-iff (ap (λ (k : List ℕ). marksIn k .isEmpty) e)) (kind-marks t′ .isEmpty));
           states = λ q h. chain (turn (kind-states t q h)) (chain (test-iff (ap (λ (k : List ℕ). stateIn C k q) e)) (kind-states t′ q h));
           facts = λ p q qs is.
               chain (turn (kind-facts-hold t p q qs is)) (chain (test-iff (ap (λ (k : List ℕ). factsIn C k p q qs) e)) (kind-facts-hold t′ p q qs is));
         },
     λ same.
-        let own : (u : Tree) → kindOf C u ≡ kindWords C (stateIn C (kindOf C u)) (factsIn C (kindOf C u)) =
-        λ u. kind-determined u _ _ (kind-states u) (kind-facts-hold u) in
-        kind-determined t (stateIn C (kindOf C t′)) (factsIn C (kindOf C t′)) (λ q h. chain (kind-states t′ q h) (turn (same .states q h)))
+        let own : (u : Tree) → kindOf C u ≡ kindWords C (marksIn (kindOf C u)) (stateIn C (kindOf C u)) (factsIn C (kindOf C u)) =
+        λ u. kind-determined u _ _ _ (kind-marks u) (kind-states u) (kind-facts-hold u) in
+        kind-determined t (marksIn (kindOf C t′)) (stateIn C (kindOf C t′)) (factsIn C (kindOf C t′))
+        (record { oneRoot = chain (kind-marks t′ .oneRoot) (turn (same .oneRoot)); isEmpty = chain (kind-marks t′ .isEmpty) (turn (same .isEmpty)) })
+        (λ q h. chain (kind-states t′ q h) (turn (same .states q h)))
         (λ p q qs is. chain (kind-facts-hold t′ p q qs is) (turn (same .facts p q qs is)))
         ∙ sym (own t′),
   )
 
-  -- "A contract takes a tree that reaches an accepted input state."
-  pub takes-exactly : (t : Tree) → T (ofInputType C (kindOf C t)) ↔ Takes C t
-  unfolding ofInputType
+  -- "A contract takes a tree that reaches an accepted input state."; it "takes no other" than one of one root
+  pub takes-exactly : (t : Tree) → T (isTaken C (kindOf C t)) ↔ Takes C t
+  unfolding isTaken ofInputType
   takes-exactly t = (
     λ x.
-        let (q, h, k) = some-elim _ _ x in
-        record { state = q; isState = h; accepted = same-eq _ _ (and-left _ _ k); reached = kind-states t q h .0 (and-right _ _ k) },
+        let (q, h, k) = some-elim _ _ (and-right _ _ x) in
+        record {
+          oneRoot = kind-marks t .oneRoot .0 (and-left _ _ x);
+          state = q;
+          isState = h;
+          accepted = same-eq _ _ (and-left _ _ k);
+          reached = kind-states t q h .0 (and-right _ _ k);
+        },
     λ y.
-        some-intro _ _ (y .state) (y .isState)
-        (and-both _ _ (eq-same _ _ (y .accepted)) (kind-states t (y .state) (y .isState) .1 (y .reached))),
+        and-both _ _ (kind-marks t .oneRoot .1 (y .oneRoot))
+        (some-intro _ _ (y .state) (y .isState)
+        (and-both _ _ (eq-same _ _ (y .accepted)) (kind-states t (y .state) (y .isState) .1 (y .reached)))),
   )
 
   -- procedure 0 with no parameters is a procedure
@@ -248,7 +301,7 @@ module _ (C : Contract) (known : Established C) where
   -- "the result is 0, ..; 1, ..; 2, .."
   pub judgement-exactly : (t : Tree) → Judges C t (judgement C (kindOf C t))
   unfolding judgement
-  judgement-exactly t = by-cases (ofInputType C (kindOf C t)) (breaks C (kindOf C t)) (takes-exactly t) (breaks-exactly t)
+  judgement-exactly t = by-cases (isTaken C (kindOf C t)) (breaks C (kindOf C t)) (takes-exactly t) (breaks-exactly t)
     where
       by-cases : (a b : Bool) → T a ↔ Takes C t → T b ↔ Breaks C t → Judges C t (choose a (choose b 2 1) 0)
       by-cases true true f g =

@@ -41,7 +41,7 @@ room-passes C lent room = (λ (n, e). means .passExactly n .0 e .keeps, λ keeps
 module _ (C : Contract) where
   -- what is taken does not depend on the output type
   taken-also : (A B : OutputType) (t : Tree) → Takes (withOutput C A) t → Takes (withOutput C B) t
-  taken-also A B t k = record { state = k .state; isState = k .isState; accepted = k .accepted; reached = k .reached }
+  taken-also A B t k = record { oneRoot = k .oneRoot; state = k .state; isState = k .isState; accepted = k .accepted; reached = k .reached }
 
   -- a tree that breaks a contract breaks one with another output type that does not allow the output either
   breaks-also : (A B : OutputType) (t : Tree) (b : Breaks (withOutput C A) t) → (TypeAllows B (b .output) → ⊥) → Breaks (withOutput C B) t

@@ -1,0 +1,46 @@
+-- A kind without its marks, to which the marks are added last.
+use mathlib.Core.Path.{_≡_}
+use mathlib.Core.List.{List, [], _∷_, _++_}
+use mathlib.Core.Bool.{Bool, false}
+use Prim.Native.Nat.{ℕ, _^_, _<_, _≤_}
+use native.Mathlib.Nat.{lt-of-lt-of-le}
+use native.Mathlib.Omega.{arith}
+use lib.ListN.{getD, set}
+use lib.Pow.{pow-mono}
+use Rattle.foundation.specs.Words.{word, word-lt}
+use Rattle.model.specs.Tables.{Contract}
+use Rattle.model.specs.Facts.{FactSet, onSide, factsAt}
+use Rattle.model.specs.Kinds.{RootMarks, rootBit, marksOver, withMarks, marksIn, reachedNext, stateIn, factsIn, kindWords, nextKind}
+
+abbrev pub noMarks : RootMarks
+noMarks = record { oneRoot = false; isEmpty = false }
+
+pub no-marks-added : {states : ℕ} → withMarks noMarks states ≡ states
+unfolding withMarks
+no-marks-added = omega arith
+
+-- the kind of symbol s over two kinds, without its marks
+unfoldable pub unmarkedKind : Contract → ℕ → (l r : List ℕ) → List ℕ
+unmarkedKind C s l r =
+    kindWords C noMarks (reachedNext (C .input) s (stateIn C l) (stateIn C r)) (factsAt (C .transformation) (C .output) (onSide (factsIn C l) (factsIn C r)) s)
+
+-- words with the marks added to the first of them
+abbrev pub firstWordMarked : RootMarks → List ℕ → List ℕ
+firstWordMarked marks kind = set kind 0 (withMarks marks (getD kind 0 0))
+
+module _ (C : Contract) where
+  pub words-marked : (marks : RootMarks) (reaches : ℕ → Bool) (facts : FactSet)
+      → firstWordMarked marks (kindWords C noMarks reaches facts ++ (0 ∷ [])) ≡ kindWords C marks reaches facts ++ (0 ∷ [])
+  unfolding kindWords
+  words-marked marks reaches facts = rw (no-marks-added {states = word (C .input .states) reaches})
+
+  -- the kind of a symbol has the marks that its right child gives it
+  pub next-marked : (s : ℕ) (l r : List ℕ) → firstWordMarked (marksOver (marksIn r)) (unmarkedKind C s l r ++ (0 ∷ [])) ≡ nextKind C s l r ++ (0 ∷ [])
+  unfolding unmarkedKind nextKind
+  next-marked s l r = words-marked _ _ _
+
+  -- at most 32 input states leave the bits of the marks free
+  pub unmarked-small : C .input .states ≤ 32 → (s : ℕ) (l r : List ℕ) → getD (unmarkedKind C s l r ++ (0 ∷ [])) 0 0 < 2 ^ rootBit
+  unfolding unmarkedKind kindWords
+  unmarked-small few s l r =
+      rw no-marks-added (lt-of-lt-of-le (word-lt (C .input .states) (reachedNext (C .input) s (stateIn C l) (stateIn C r))) (pow-mono few))

@@ -1,0 +1,2 @@
+-- What the proofs of the marks share.
+pub mod MarkBits
