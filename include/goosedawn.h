@@ -20,6 +20,11 @@
  * nodes and 256 rules.
  *
  * A document is its symbols in preorder, 1 to 1023 numbers: symbol 0 stands alone, any other has two trees after it.
+ * It has one root if it does not begin with symbol 0 and its root's right tree is symbol 0: nothing follows the root.
+ * XML has no other documents, so only those with one root count when a contract is checked or a document is judged. All
+ * may be handed in, also an empty one or one of several roots: judging answers 0, running and comparing take them as they
+ * are.
+ *
  * Judging, running and comparing take the document that the numbers begin with. What stands behind it is not looked at
  * and may be anything, such as the next document. Judging and running tell how many numbers it took. To go on there,
  * hand in the pointer moved on by the numbers taken and a length that is less by as many, as examples/c/collector.c
@@ -40,7 +45,7 @@ enum {
     GOOSEDAWN_ADMITTED = 1,
     GOOSEDAWN_JUDGED = 2,   /* first: the result; second: how many numbers the document took */
     GOOSEDAWN_PASS = 3,     /* first: how many kinds there are */
-    GOOSEDAWN_TREE = 4,     /* first: the row of a tree that breaks the contract */
+    GOOSEDAWN_TREE = 4,     /* first: the row of a tree that breaks the contract; it has one root */
     GOOSEDAWN_RAN = 5,      /* first: the root row; second: the rows used; third: how many numbers the document took */
     GOOSEDAWN_WRITTEN = 6   /* first: how many numbers are written */
 };
@@ -85,19 +90,21 @@ goosedawn_reply goosedawn_admit(GOOSEDAWN_CONTRACT);
  *   9   the kind buffer is not five words: 0
  *   11  the first 1023 numbers are symbols, the tree does not end in them, and more follow: how many there are in all
  *   12  the first number before the end of the tree that is no symbol, or the length if the numbers end first
- * which write nothing. Otherwise JUDGED, and the kind of the document is written: word 0 has a bit for each input state
- * that it reaches, words 1 to 4 a bit for each fact. The result is 0, not of the input type; 1, of the input type with
- * no output outside the output type; 2, of the input type with such an output. */
+ * which write nothing. Otherwise JUDGED, and the kind of the document is written: in word 0 bit s is set for each input
+ * state s that it reaches (below 32), bit 32 if it has one root, bit 33 if it is empty; words 1 to 4 have a bit for each
+ * fact. The result is 0, not of the input type, or not with one root; 1, of the input type and with one root, with no
+ * output outside the output type; 2, the same with such an output. */
 goosedawn_reply goosedawn_judge(GOOSEDAWN_CONTRACT, const uint16_t *numbers, size_t numbers_length, uint64_t *kind,
                                 size_t kind_length);
 
-/* Checks a contract for all documents at once, listing at most `limit` kinds of trees. The refusals of
- * goosedawn_admit, then
+/* Checks a contract for all documents with one root at once, listing at most `limit` kinds of trees; the list has the
+ * kinds of all trees, whatever their roots. The refusals of goosedawn_admit, then
  *   9   the limit is not 1 to 512, the row buffer not 3 x limit numbers, the word buffer not 5 x limit words: 0, 1, 2
  * which write nothing. Otherwise
- *   PASS  no document of the input type has an output outside the output type: rows and words of all kinds stand
- *   TREE  the tree of the row breaks the contract, and no document of less height does: rows and words up to it stand;
- *         goosedawn_write_out gives the document
+ *   PASS  no document of the input type with one root has an output outside the output type: rows and words of all
+ *         kinds stand
+ *   TREE  the tree of the row has one root and breaks the contract, and none of less height does: rows and words up to it
+ *         stand; goosedawn_write_out gives the document
  *   refusal 10, the limit: there are more kinds than the limit and none of those listed breaks; both buffers are all 0
  * A row is (symbol, left row, right row), a kind five words as in judging; the rest of both buffers is 0. */
 goosedawn_reply goosedawn_check(GOOSEDAWN_CONTRACT, size_t limit, uint16_t *rows, size_t rows_length, uint64_t *words,

@@ -1,4 +1,4 @@
-/* Checks a contract that some document breaks, and writes out that document. */
+/* Checks a contract that some document breaks, and writes out one of least height: as every one shown, it has one root. */
 #include <stdio.h>
 
 #include "goosedawn.h"

@@ -1,4 +1,5 @@
-/* Admits a contract whose transformation copies its input, runs it on a document, and writes out the tree it gives. */
+/* Admits a contract whose transformation copies its input, runs it on a forest of two roots (a run takes
+ * any), and writes out the tree it gives. */
 #include <stdio.h>
 
 #include "goosedawn.h"

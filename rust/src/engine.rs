@@ -45,8 +45,9 @@ pub type Refusal = (u64, usize);
 
 /// The seam: [`crate::model::Model`] is one engine, the proved library another.
 ///
-/// Judging, running and comparing take the document that the numbers begin with. A buffer is lent with whatever it
-/// holds; after a refusal that writes nothing it still holds that.
+/// Judging, running and comparing take the document that the numbers begin with. Only documents with one root count:
+/// no other breaks a contract, and judging gives any other 0. A buffer is lent with whatever it holds; after a refusal
+/// that writes nothing it still holds that.
 pub trait Engine {
     fn admit(&self, contract: &Contract) -> Answer;
     fn judge(&self, contract: &Contract, numbers: &[u16], kind: &mut [u64]) -> Answer;

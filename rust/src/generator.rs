@@ -54,7 +54,8 @@ pub fn valid(random: &mut Random, size: Size) -> Contract {
         Size::Large => (16, 32, 4, 16, 512, 256, 256),
     };
     let symbols = random.within(1, symbols);
-    let input_states = random.within(1, inputs);
+    let (input_states, input_rows) =
+        if random.once_in(4) { states_by_roots(symbols) } else { any_states(random, symbols, inputs, rows) };
     let output_states = random.within(1, outputs);
     let counts = counts(random, procedures, output_states);
     let mut contract = Contract {
@@ -62,20 +63,35 @@ pub fn valid(random: &mut Random, size: Size) -> Contract {
         input_states,
         output_states,
         counts,
+        input_rows: input_rows.concat().into_iter().map(|field| field as u16).collect(),
         input_marks: random.list(input_states, 2),
         output_table: random.list(1 + (symbols - 1) * output_states * output_states, output_states),
         output_marks: random.list(output_states, 2),
         ..Contract::default()
     };
-    for _ in 0..random.within(0, rows) {
-        let symbol = random.below(symbols);
-        let bound = if symbol == 0 { 1 } else { input_states };
-        let row = [random.below(input_states), symbol, random.below(bound), random.below(bound)];
-        contract.input_rows.extend(row.map(|field| field as u16));
-    }
     add_nodes(random, &mut contract, nodes);
     add_rules(random, &mut contract, rules);
     contract
+}
+
+/// How many input states there are, often as many as may be, and their rows; now and then the empty forest reaches all.
+fn any_states(random: &mut Random, symbols: usize, most_states: usize, most_rows: usize) -> (usize, Vec<[usize; 4]>) {
+    let states = if random.once_in(3) { most_states } else { random.within(1, most_states) };
+    let of_empty = if random.once_in(8) { states } else { 0 };
+    let mut rows: Vec<_> = (0..of_empty).map(|state| [state, 0, 0, 0]).collect();
+    for _ in 0..random.within(0, most_rows - of_empty) {
+        let symbol = random.below(symbols);
+        let bound = if symbol == 0 { 1 } else { states };
+        rows.push([random.below(states), symbol, random.below(bound), random.below(bound)]);
+    }
+    (states, rows)
+}
+
+/// Input states by how many roots a document has: 0 any number, 1 none, 2 one or more, 3 two or more, 4 one.
+fn states_by_roots(symbols: usize) -> (usize, Vec<[usize; 4]>) {
+    let of_symbol = |symbol| [[0, symbol, 0, 0], [2, symbol, 0, 0], [3, symbol, 0, 2], [4, symbol, 0, 1]];
+    let rows = [[0, 0, 0, 0], [1, 0, 0, 0]].into_iter().chain((1..symbols).flat_map(of_symbol));
+    (5, rows.collect())
 }
 
 /// Parameter counts with at most 256 facts.
@@ -203,7 +219,7 @@ fn damage(random: &mut Random, table: &mut Vec<u16>) {
     }
 }
 
-/// A document over the symbols: of about `size` inner symbols.
+/// A document over the symbols: of about `size` inner symbols. It has no root, one or several.
 pub fn document(random: &mut Random, symbols: usize, size: usize) -> Vec<u16> {
     let mut numbers = Vec::new();
     let mut due = 1;
@@ -221,9 +237,27 @@ pub fn document(random: &mut Random, symbols: usize, size: usize) -> Vec<u16> {
     numbers
 }
 
+/// A document with one root and about `size` more inner symbols; the empty one if there is no symbol for a root.
+pub fn one_root(random: &mut Random, symbols: usize, size: usize) -> Vec<u16> {
+    if symbols < 2 {
+        return vec![0];
+    }
+    let root = random.within(1, symbols - 1) as u16;
+    [vec![root], document(random, symbols, size), vec![0]].concat()
+}
+
+/// A document of about `size` inner symbols, every other time of one root.
+fn rooted_or_not(random: &mut Random, symbols: usize, size: usize) -> Vec<u16> {
+    if size > 0 && random.once_in(2) {
+        one_root(random, symbols, size - 1)
+    } else {
+        document(random, symbols, size)
+    }
+}
+
 fn small_document(random: &mut Random, symbols: usize) -> Vec<u16> {
     let size = random.within(0, 12);
-    document(random, symbols, size)
+    rooted_or_not(random, symbols, size)
 }
 
 fn no_symbol(random: &mut Random, symbols: usize) -> u16 {
@@ -247,7 +281,7 @@ fn behind(random: &mut Random, symbols: usize) -> Vec<u16> {
 /// them, and sometimes a number near there is no symbol.
 fn about_the_most(random: &mut Random, symbols: usize) -> Vec<u16> {
     let size = random.within(MOST_NUMBERS / 2 - 1, MOST_NUMBERS / 2 + 1);
-    let mut numbers = document(random, symbols, size);
+    let mut numbers = rooted_or_not(random, symbols, size);
     numbers.extend(behind(random, symbols));
     if random.once_in(2) {
         numbers.truncate(random.within(MOST_NUMBERS - 1, MOST_NUMBERS + 2));
@@ -262,7 +296,7 @@ fn about_the_most(random: &mut Random, symbols: usize) -> Vec<u16> {
 /// A document, or one that is cut or changed.
 fn document_or_damaged(random: &mut Random, symbols: usize) -> Vec<u16> {
     let size = if random.once_in(8) { random.within(0, MOST_NUMBERS / 2) } else { random.within(0, 12) };
-    let mut numbers = document(random, symbols, size);
+    let mut numbers = rooted_or_not(random, symbols, size);
     match random.below(8) {
         0 => numbers.truncate(random.below(numbers.len())),
         1 => {

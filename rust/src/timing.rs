@@ -12,6 +12,8 @@ use std::time::{Duration, Instant};
 #[derive(Clone, Copy, Debug)]
 pub struct Times {
     pub answer: Answer,
+    /// What the right one answers where it goes by other rules.
+    pub other: Option<Answer>,
     pub left: f64,
     pub right: f64,
     pub ratio: f64,
@@ -20,8 +22,12 @@ pub struct Times {
 /// The columns of a table, under their [`heads`].
 impl Display for Times {
     fn fmt(&self, f: &mut Formatter<'_>) -> fmt::Result {
-        let Times { answer, left, right, ratio } = self;
-        write!(f, "{:<16} {left:>12.2} {right:>12.2} {ratio:>7.3}", answer.to_string())
+        let Times { answer, other, left, right, ratio } = self;
+        write!(f, "{:<16} {left:>12.2} {right:>12.2} {ratio:>7.3}", answer.to_string())?;
+        match other {
+            Some(other) => write!(f, "  (the other: {other})"),
+            None => Ok(()),
+        }
     }
 }
 
@@ -66,7 +72,7 @@ pub fn one_after_the_other(left: &impl Engine, right: &impl Engine, contract: &C
     let (answer, left) = time(left, contract, limit);
     let (expected, right) = time(right, contract, limit);
     assert_eq!(answer, expected, "{contract:?}");
-    Times { answer, left, right, ratio: left / right }
+    Times { answer, other: None, left, right, ratio: left / right }
 }
 
 /// A turn takes about this long: reading the clock is a small part of it.
@@ -118,16 +124,35 @@ fn middle(mut ratios: Vec<f64>) -> f64 {
     ratios[ratios.len() / 2]
 }
 
-/// Sees that two engines give the same answer and leave the same buffers, and times them in turns. In a round each has a
-/// turn, on the same memory, and the order changes from round to round; the ratio is the middle one of the rounds' ratios,
-/// since what changes the machine's speed for a while meets both sides of a round.
+/// Sees that two engines give the same answer and leave the same buffers, and times them in turns.
 pub fn in_turns<B: Clone + PartialEq + Debug>(
     question: impl Fn() -> String,
-    mut buffers: B,
+    buffers: B,
     left: impl Fn(&mut B) -> Answer,
     right: impl Fn(&mut B) -> Answer,
 ) -> Times {
     let answer = agree(buffers.clone(), question, &left, &right).unwrap_or_else(|difference| panic!("{difference:?}"));
+    turns([answer, answer], buffers, left, right)
+}
+
+/// Times two engines in turns that may answer by different rules.
+pub fn in_turns_by_other_rules<B: Clone>(
+    buffers: B,
+    left: impl Fn(&mut B) -> Answer,
+    right: impl Fn(&mut B) -> Answer,
+) -> Times {
+    let answers = [left(&mut buffers.clone()), right(&mut buffers.clone())];
+    turns(answers, buffers, left, right)
+}
+
+/// In a round each engine has a turn, on the same memory, and the order changes from round to round; the ratio is the middle
+/// one of the rounds' ratios, since what changes the machine's speed for a while meets both sides of a round.
+fn turns<B>(
+    [answer, right_answer]: [Answer; 2],
+    mut buffers: B,
+    left: impl Fn(&mut B) -> Answer,
+    right: impl Fn(&mut B) -> Answer,
+) -> Times {
     let mut questions = 1;
     let mut rounds = Vec::new();
     let began = processor_time();
@@ -145,6 +170,7 @@ pub fn in_turns<B: Clone + PartialEq + Debug>(
     }
     Times {
         answer,
+        other: (right_answer != answer).then_some(right_answer),
         left: least(rounds.iter().map(|round| round.0)),
         right: least(rounds.iter().map(|round| round.1)),
         ratio: middle(rounds.iter().map(|round| round.0 / round.1).collect()),

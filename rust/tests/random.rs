@@ -4,7 +4,8 @@ use goosedawn::comparison::compare;
 use goosedawn::contract::{Contract, OutputType};
 use goosedawn::engine::{Answer, Engine};
 use goosedawn::generator::{contract, damaged, document, merging, numbers, pair, valid, Merging, Pair, Random, Size};
-use goosedawn::model::documents::leading_document;
+use goosedawn::model::documents::{leading_document, right_children};
+use goosedawn::model::kinds::{Kind, EMPTY, ONE_ROOT};
 use goosedawn::model::{Model, Refusal};
 use std::ptr;
 
@@ -43,13 +44,24 @@ fn documents_are_documents() {
     }
 }
 
+/// Whether a document is not empty and has nothing behind its root.
+fn has_one_root(document: &[u16]) -> bool {
+    document[0] != 0 && document[right_children(document)[0]] == 0
+}
+
 /// Numbers, and how many of them the model takes for a document.
 type Case = fn(&[u16], Result<usize, Refusal>) -> bool;
 
 #[test]
 fn numbers_meet_every_case() {
-    let cases: [(&str, Case); 12] = [
+    let cases: [(&str, Case); 16] = [
         ("a document alone", |numbers, taken| taken == Ok(numbers.len())),
+        ("no root", |numbers, taken| taken.is_ok() && numbers[0] == 0),
+        ("one root", |numbers, taken| taken.is_ok_and(|taken| has_one_root(&numbers[..taken]))),
+        ("several roots", |numbers, taken| {
+            taken.is_ok_and(|taken| numbers[0] != 0 && !has_one_root(&numbers[..taken]))
+        }),
+        ("the longest document, of one root", |numbers, taken| taken == Ok(1023) && has_one_root(&numbers[..1023])),
         ("something behind a document", |numbers, taken| taken.is_ok_and(|taken| taken < numbers.len())),
         ("no symbol right behind it", |numbers, taken| taken.is_ok_and(|taken| numbers.get(taken) > Some(&2))),
         ("very much behind it", |numbers, taken| taken.is_ok_and(|taken| taken < 100) && numbers.len() > 1024),
@@ -70,6 +82,77 @@ fn numbers_meet_every_case() {
         let met = made.iter().filter(|numbers| case(numbers, leading_document(3, numbers).map(<[u16]>::len))).count();
         println!("{name}: {met}");
         assert!(met > 0, "{name}");
+    }
+}
+
+/// A contract that is not refused with a limit of 64, the answer, and the kinds listed.
+struct Checked {
+    contract: Contract,
+    answer: Answer,
+    kinds: Vec<Kind>,
+}
+
+impl Checked {
+    fn new(contract: Contract) -> Option<Checked> {
+        let mut words = [0; 5 * 64];
+        let answer = Model.check(&contract, 64, &mut [0; 3 * 64], &mut words);
+        let count = match answer {
+            Answer::Pass { count } => count,
+            Answer::Tree { row } => row + 1,
+            _ => return None,
+        };
+        let kinds = words.chunks(5).take(count).map(|kind| kind.try_into().expect("five words")).collect();
+        Some(Checked { contract, answer, kinds })
+    }
+
+    /// Whether the contract passes, though one of the kinds with these marks would break it with the mark of one root.
+    fn passes_by_roots(&self, marks: u64) -> bool {
+        let passes = matches!(self.answer, Answer::Pass { .. });
+        passes && self.kinds.iter().any(|kind| kind[0] >> 32 == marks >> 32 && would_break(&self.contract, kind))
+    }
+
+    /// Whether two kinds differ in these marks alone.
+    fn differ_in(&self, marks: u64) -> bool {
+        let differ = |a: &Kind, b: &Kind| a[0] ^ b[0] == marks && a[1..] == b[1..];
+        self.kinds.iter().any(|a| self.kinds.iter().any(|b| differ(a, b)))
+    }
+
+    fn has_bits(&self, bits: u64) -> bool {
+        self.kinds.iter().any(|kind| kind[0] & bits == bits)
+    }
+}
+
+/// Whether a kind has an accepted input state, and procedure 0 gives a state that is not accepted.
+fn would_break(contract: &Contract, kind: &Kind) -> bool {
+    let has =
+        |word: u64, list: &[u16], mark| list.iter().enumerate().any(|(bit, &m)| m == mark && word >> bit & 1 == 1);
+    has(kind[0], &contract.input_marks, 1) && has(kind[1], &contract.output_marks, 0)
+}
+
+/// Whether a contract that was checked is such a case.
+type CheckedCase = fn(&Checked) -> bool;
+
+#[test]
+fn contracts_meet_every_case() {
+    let cases: [(&str, CheckedCase); 9] = [
+        ("a document is shown", |checked| matches!(checked.answer, Answer::Tree { .. })),
+        ("passes, though the empty forest would break it", |checked| checked.passes_by_roots(EMPTY)),
+        ("passes, though several roots would break it", |checked| checked.passes_by_roots(0)),
+        ("passes, though several roots alone would break it", |checked| {
+            checked.passes_by_roots(0) && !checked.passes_by_roots(EMPTY)
+        }),
+        ("32 states in one kind", |checked| checked.has_bits(u64::from(u32::MAX))),
+        ("state 31 and one root", |checked| checked.has_bits(1 << 31 | ONE_ROOT)),
+        ("kinds that differ in one root alone", |checked| checked.differ_in(ONE_ROOT)),
+        ("kinds that differ in being empty alone", |checked| checked.differ_in(EMPTY)),
+        ("kinds that differ in both marks alone", |checked| checked.differ_in(ONE_ROOT | EMPTY)),
+    ];
+    let mut random = Random::new(8);
+    let made: Vec<_> = (0..6000).filter_map(|_| Checked::new(contract(&mut random))).collect();
+    for (name, case) in cases {
+        let met = made.iter().filter(|checked| case(checked)).count();
+        println!("{name}: {met}");
+        assert!(met >= 10, "{name}");
     }
 }
 
@@ -248,6 +331,10 @@ fn a_model_agrees_with_itself() {
 enum Wrong {
     /// The buffers of a check stay as they were.
     Untouched,
+    /// Judging is by states and facts alone, whatever the roots.
+    AnyRoots,
+    /// The kinds that a check lists are without marks.
+    Unmarked,
     /// The shorter of two documents is a copy of it.
     Copied,
     /// What follows merged marks in their buffer is 0.
@@ -261,11 +348,26 @@ impl Engine for Wrong {
         Model.admit(contract)
     }
     fn judge(&self, contract: &Contract, numbers: &[u16], kind: &mut [u64]) -> Answer {
-        Model.judge(contract, numbers, kind)
+        let answer = Model.judge(contract, numbers, kind);
+        match (self, answer) {
+            (Wrong::AnyRoots, Answer::Judged { result: 0, taken })
+                if would_break(contract, (&*kind).try_into().expect("five words")) =>
+            {
+                Answer::Judged { result: 2, taken }
+            }
+            _ => answer,
+        }
     }
     fn check(&self, contract: &Contract, limit: usize, rows: &mut [u16], words: &mut [u64]) -> Answer {
         match self {
             Wrong::Untouched => Model.check(contract, limit, &mut rows.to_vec(), &mut words.to_vec()),
+            Wrong::Unmarked => {
+                let answer = Model.check(contract, limit, rows, words);
+                if !matches!(answer, Answer::Refused { .. }) {
+                    words.iter_mut().step_by(5).for_each(|word| *word &= u64::from(u32::MAX));
+                }
+                answer
+            }
             _ => Model.check(contract, limit, rows, words),
         }
     }
@@ -306,6 +408,8 @@ impl Engine for Wrong {
 fn a_wrong_engine_is_noticed() {
     let wrong_engines = [
         (Wrong::Untouched, "check "),
+        (Wrong::AnyRoots, "judge "),
+        (Wrong::Unmarked, "check "),
         (Wrong::Copied, "shorter "),
         (Wrong::Filled, "merge "),
         (Wrong::Written, "merge "),

@@ -41,7 +41,7 @@ fn the_label_is_any_token() {
     says("case a#b\nadmit", "a refused 1 0\n");
 }
 
-/// A contract that takes any forest of one sort of element and copies it.
+/// A contract that takes any document of one sort of element and copies it.
 const COPY: &str = "symbols 2 input-states 1 output-states 1 counts 0 input-rows 0 0 0 0 0 1 0 0 input-marks 1
     output-table 0 0 output-marks 1 nodes 1 0 0 0 0 2 0 1 0 0 2 0 2 0 0 1 1 0 1 2 rules 0 0 0 0 1 3 ";
 
@@ -53,6 +53,17 @@ fn the_numbers_taken() {
     of_copy("run 9 0 0 taken", "- run 0 1\n- taken 1\n");
     of_copy("judge 1 0 0 judge 1 0 taken", "- judged 1 3\n- refused 12 2\n- taken none\n");
     of_copy("judge 1 0 0 run 0 0 taken", "- judged 1 3\n- refused 14 0\n- taken none\n");
+}
+
+/// Only documents with one root count, but others are judged and run too.
+#[test]
+fn any_number_of_roots() {
+    let of_copy = |script: &str, said: &str| says(&format!("{COPY} {script}"), said);
+    of_copy("judge 0 show", "- judged 0 1\n- words 8589934593 1 0 0 0\n");
+    of_copy("judge 1 0 0 show", "- judged 1 3\n- words 4294967297 1 0 0 0\n");
+    of_copy("judge 1 0 1 0 0 show", "- judged 0 5\n- words 1 1 0 0 0\n");
+    of_copy("run 9 0 run 9 1 0 1 0 0", "- run 0 1\n- run 4 5\n");
+    of_copy("output-marks 0 check 3 write 1 3", "- tree 1\n- written 3: 1 0 0\n");
 }
 
 #[test]
@@ -158,16 +169,17 @@ fn a_type_stays_until_it_is_set_anew() {
 fn what_is_shown_is_of_the_last_question_with_buffers() {
     let second = "second-symbols 2 second-states 1 second-table 0 0 second-marks 1";
     let script =
-        format!("{COPY} {second} check 1 merge 2 1 show run 1 0 show merge 0 0 admit taken shorter 2 0 and 0 show");
-    let merged = "- pass 1\n- merged 1\n- table 0 0\n- marks 1\n";
+        format!("{COPY} {second} check 3 merge 2 1 show run 1 0 show merge 0 0 admit taken shorter 2 0 and 0 show");
+    let merged = "- pass 3\n- merged 1\n- table 0 0\n- marks 1\n";
     let refused = "- refused 56 0\n- admitted\n- taken 1\n- shorter first 1: 0\n- table\n- marks\n";
     says(&script, &format!("{merged}- run 0 1\n- rows 0 0 0\n{refused}"));
 }
 
 #[test]
 fn merging_leaves_the_contract_the_rows_and_the_numbers_taken() {
-    let script = format!("{COPY} run 1 0 9 merge 3 3 write 0 1 taken judge 0 show");
-    says(&script, "- run 0 1\n- refused 52 0\n- written 1: 0\n- taken 1\n- judged 1 1\n- words 1 1 0 0 0\n");
+    let script = format!("{COPY} run 1 0 9 merge 3 3 write 0 1 taken judge 1 0 0 show");
+    let judged = "- judged 1 3\n- words 4294967297 1 0 0 0\n";
+    says(&script, &format!("- run 0 1\n- refused 52 0\n- written 1: 0\n- taken 1\n{judged}"));
 }
 
 #[test]

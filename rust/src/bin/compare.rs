@@ -1,13 +1,15 @@
 //! Times two builds of the proved library against each other: `compare FILE`. It prints a table of the checks of a script, and
 //! one of documents that some of its contracts judge and run: the least times of some questions by the new library and by the
-//! old one, and their ratio.
+//! old one, and their ratio. If the old one is from before only documents with one root counted, its checks and judgements go by
+//! other rules: its answer stands behind the ratio where it is another.
 
 use goosedawn::contract::Contract;
 use goosedawn::engine::{Answer, Engine};
 use goosedawn::generator::{document, Random};
 use goosedawn::library::{Library, RUN_STACK};
 use goosedawn::script::{checks, named_by_argument};
-use goosedawn::timing::{heads, in_turns, print_checks, Times};
+use goosedawn::timing::{heads, in_turns, in_turns_by_other_rules, print_checks, Times};
+use std::fmt::Debug;
 use std::thread;
 
 const NAMES: [&str; 2] = ["new", "old"];
@@ -33,7 +35,7 @@ fn document_with_output(contract: &Contract, size: usize) -> Vec<u16> {
     documents.max_by_key(rows_used).expect("a document")
 }
 
-/// The old build's answer to a document with nothing behind it: all numbers are taken, though it may not tell so.
+/// A build's answer to a document with nothing behind it: all numbers are taken, though an old one may not tell so.
 fn of_whole(document: &[u16], answer: Answer) -> Answer {
     let taken = document.len();
     match answer {
@@ -43,8 +45,41 @@ fn of_whole(document: &[u16], answer: Answer) -> Answer {
     }
 }
 
+/// Whether a build marks the roots in a kind, here in that of the empty forest.
+fn marks_roots(library: Library) -> bool {
+    let contract = Contract {
+        symbols: 1,
+        input_states: 1,
+        output_states: 1,
+        counts: vec![0],
+        input_marks: vec![0],
+        output_table: vec![0],
+        output_marks: vec![0],
+        ..Contract::default()
+    };
+    let mut kind = [0; 5];
+    library.judge(&contract, &[0], &mut kind);
+    kind[0] != 0
+}
+
+/// Times a question of kinds: both builds answer it alike if both mark the roots.
+fn of_kinds<B: Clone + PartialEq + Debug>(
+    [new, old]: [Library; 2],
+    question: impl Fn() -> String,
+    buffers: B,
+    by_new: impl Fn(&mut B) -> Answer,
+    by_old: impl Fn(&mut B) -> Answer,
+) -> Times {
+    if marks_roots(new) == marks_roots(old) {
+        in_turns(question, buffers, by_new, by_old)
+    } else {
+        in_turns_by_other_rules(buffers, by_new, by_old)
+    }
+}
+
 fn checking(new: Library, old: Library, contract: &Contract, limit: usize) -> Times {
-    in_turns(
+    of_kinds(
+        [new, old],
         || format!("check {limit} {contract:?}"),
         (vec![7; 3 * limit], vec![7; 5 * limit]),
         |(rows, words)| new.check(contract, limit, rows, words),
@@ -53,7 +88,8 @@ fn checking(new: Library, old: Library, contract: &Contract, limit: usize) -> Ti
 }
 
 fn judging(new: Library, old: Library, contract: &Contract, numbers: &[u16]) -> Times {
-    in_turns(
+    of_kinds(
+        [new, old],
         || format!("judge {numbers:?} {contract:?}"),
         [7; 5],
         |kind| new.judge(contract, numbers, kind),

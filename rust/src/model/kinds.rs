@@ -5,13 +5,20 @@ use super::{admission, Refusal};
 use crate::contract::{Contract, Node};
 use crate::engine::Answer;
 
-/// Five words: input states, then facts.
+/// Five words: input states and the two marks, then facts.
 pub type Kind = [u64; 5];
+
+/// The mark of a tree with one root: its root is not symbol 0, and its right child is.
+pub const ONE_ROOT: u64 = 1 << 32;
+
+/// The mark of the empty forest.
+pub const EMPTY: u64 = 1 << 33;
 
 /// A set of output states, as a mask.
 type States = u8;
 
-/// A kind taken apart: the input states, and the output states that each procedure gives for each parameter states.
+/// A kind taken apart: the input states with the marks, and the output states that each procedure gives for each parameter
+/// states.
 #[derive(Clone)]
 pub struct Parts {
     inputs: u64,
@@ -104,7 +111,7 @@ impl<'a> Kinds<'a> {
 
     /// The kind of a symbol over two kinds. For symbol 0 they are not looked at.
     pub fn kind(&self, symbol: usize, left: &Parts, right: &Parts) -> Kind {
-        let mut kind = [0; 5];
+        let mut kind = [mark(symbol, right), 0, 0, 0, 0];
         for &[state, first, second] in &self.rows_of[symbol] {
             let reached = symbol == 0 || left.inputs >> first & right.inputs >> second & 1 == 1;
             kind[0] |= u64::from(reached) << state;
@@ -151,13 +158,23 @@ impl<'a> Kinds<'a> {
         kinds.pop().expect("a tree")
     }
 
+    /// A contract takes trees with one root alone.
     pub fn takes(&self, kind: &Kind) -> bool {
-        kind[0] & self.accepted_inputs != 0
+        kind[0] & ONE_ROOT != 0 && kind[0] & self.accepted_inputs != 0
     }
 
     /// The facts of procedure 0 come first, one for each state.
     pub fn breaks(&self, kind: &Kind) -> bool {
         self.takes(kind) && kind[1] & self.breaking_facts != 0
+    }
+}
+
+/// The mark of a symbol over two kinds, if it has one: a symbol has one root if its right child is the empty forest.
+fn mark(symbol: usize, right: &Parts) -> u64 {
+    match symbol {
+        0 => EMPTY,
+        _ if right.inputs & EMPTY != 0 => ONE_ROOT,
+        _ => 0,
     }
 }
 
