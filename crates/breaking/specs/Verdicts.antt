@@ -16,8 +16,9 @@ use Rattle.foundation.specs.Words.{bit, word, bit-word, word-lt}
 use Rattle.foundation.specs.Bits.{bit-and, bit-zero, zero-bits}
 use Rattle.model.specs.Tables.{Contract, markAt}
 use Rattle.model.specs.Facts.{offset, code, factNumber}
-use Rattle.model.specs.Kinds.{rootBit, marksIn, stateIn, bitOfFact, factsIn, ofInputType, hasWrongOutput, isTaken, breaks}
+use Rattle.model.specs.Kinds.{RootMarks, marksIn, stateIn, bitOfFact, factsIn, ofInputType, hasWrongOutput, isTaken, breaks}
 use Rattle.model.proofs.Laws.Established.{Established}
+use Rattle.model.proofs.Laws.RootMarks.{marks-five}
 use Rattle.breaking.specs.declared.Verdicts.{Verdicts}
 
 -- the states that have a mark, as a word
@@ -99,8 +100,8 @@ module _ (C : Contract) (known : Established C) where
 
     -- "a contract takes no other" tree than one of one root
     pub taking-is : taking (v .accepted) held ≡ isTaken C (take 5 held)
-    unfolding isTaken marksIn
-    taking-is = ap₂ _&&_ (ap (λ (w : ℕ). bit w rootBit) (sym (getD-take 5 held 0 0 (omega arith)))) accepting-is ∙ and-is _ _
+    unfolding isTaken
+    taking-is = ap₂ _&&_ (ap (λ (marks : RootMarks). marks .oneRoot) (marks-five held)) accepting-is ∙ and-is _ _
 
     -- "A kind breaks the contract if .."
     pub breaking-is : breaking (v .accepted) (v .refused) held ≡ breaks C (take 5 held)

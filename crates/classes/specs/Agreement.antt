@@ -13,6 +13,7 @@ use Rattle.model.specs.Outputs.{rightSide}
 use Rattle.model.specs.Facts.{FactSet, onSide, yields, yieldsAll, factsAt}
 use Rattle.model.specs.Kinds.{marksIn, reachedNext, stateIn, factsIn, nextKind}
 use Rattle.model.proofs.Laws.Established.{Established}
+use Rattle.model.proofs.Laws.RootMarks.{same-marks}
 use Rattle.model.proofs.Laws.Facts.{AllBelow, IsFact, SameFacts, WellFormed, AllWellFormed, argumentCount, words-same, right-side-well-formed}
 
 -- what stands behind a test matters only where the test holds
@@ -106,7 +107,7 @@ pub next-kind-agree : (C : Contract) → Established C → (s : ℕ) (P : Child 
     → nextKind C s (kinds left) (kinds right) ≡ nextKind C s (kinds′ left) (kinds′ right)
 unfolding nextKind reachedNext
 next-kind-agree C known s P kinds kinds′ seen =
-    words-same C _ _ _ _ (ap (λ (b : Bool). record { oneRoot = b; isEmpty = false }) (seen .rightEmpty))
+    words-same C _ _ _ _ (same-marks (seen .rightEmpty) refl)
     (λ q hq.
     some-cong _ _ _
     (λ k hk.

@@ -92,8 +92,8 @@ module _ (C : Contract) (known : Established C) where
 
   empty-agrees : (mask kind kind′ : List ℕ) → AgreeUnder mask kind kind′ → bit (getD mask 0 0) emptyBit ≡ true
       → marksIn kind .isEmpty ≡ marksIn kind′ .isEmpty
-  unfolding marksIn
-  empty-agrees mask kind kind′ a shown = mask-bit (getD kind 0 0) (getD kind′ 0 0) (getD mask 0 0) emptyBit (a .words 0 (omega arith)) shown
+  unfolding marksIn stateIn
+  empty-agrees mask kind kind′ a shown = state-agrees mask kind kind′ a emptyBit shown
 
   -- kinds that agree under the masks make the same kind
   pub class-agree : (s : ℕ) (masks : Child → List ℕ) → Covers C s masks → (l l′ r r′ : List ℕ)

@@ -21,14 +21,15 @@ unfoldable pub word : ℕ → (ℕ → Bool) → ℕ
 word zero f = 0
 word (suc n) f = word n f + one-if (f n) * 2 ^ n
 
+-- a number with one more bit on top
+pub topped-lt : (n w : ℕ) (b : Bool) → w < 2 ^ n → w + one-if b * 2 ^ n < 2 ^ suc n
+topped-lt n w true h = omega arith
+topped-lt n w false h = omega arith
+
 pub word-lt : (n : ℕ) (f : ℕ → Bool) → word n f < 2 ^ n
 unfolding word
 word-lt zero f = omega arith
-word-lt (suc n) f = go (f n) (word-lt n f)
-  where
-    go : (b : Bool) → word n f < 2 ^ n → word n f + one-if b * 2 ^ n < 2 ^ suc n
-    go true h = omega arith
-    go false h = omega arith
+word-lt (suc n) f = topped-lt n (word n f) (f n) (word-lt n f)
 
 pub word-cong : (n : ℕ) (f g : ℕ → Bool) → ((i : ℕ) → i < n → f i ≡ g i) → word n f ≡ word n g
 unfolding word

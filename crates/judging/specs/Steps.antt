@@ -1,11 +1,12 @@
 -- Judging step by step: each refusal and the judgement, as the definition gives them.
 use mathlib.Core.Path.{_≡_, refl, ap, ap₂, subst, sym, _∙_}
 use mathlib.Core.List.{List, [], _∷_, _++_}
-use mathlib.Core.Bool.{Bool, true, false, _&&_}
+use mathlib.Core.Bool.{Bool, true}
 use Prim.Native.Nat.{ℕ}
 use lib.ListN.{length, take}
 use borrow.Author.Tests.{eq-eqb, ne-eqb}
 use Rattle.foundation.specs.Tests.{choose}
+use Rattle.foundation.specs.TestLaws.{and-first}
 use Rattle.model.specs.Tables.{Contract}
 use Rattle.model.specs.Trees.{Tree}
 use Rattle.model.specs.Kinds.{kindOf}
@@ -45,11 +46,7 @@ told v kind = judgementBy (taking (v .accepted) kind) (breaking (v .accepted) (v
 
 -- a breaking kind is taken
 pub told-breaking : (v : Verdicts) (kind : List ℕ) → breaking (v .accepted) (v .refused) kind ≡ true → 2 ≡ told v kind
-told-breaking v kind e = ap₂ judgementBy (sym (first-true (taking (v .accepted) kind) _ e)) (sym e)
-  where
-    first-true : (a b : Bool) → (a && b) ≡ true → a ≡ true
-    first-true true b e = refl
-    first-true false b e = e
+told-breaking v kind e = ap₂ judgementBy (sym (and-first (taking (v .accepted) kind) _ e)) (sym e)
 
 -- which is the judgement; the kind of a tree is held with a sixth word, and written without
 pub comes-judged : (C : Contract) (v : Verdicts) (t : Tree) (result taken : ℕ) (held written : List ℕ) → Established C

@@ -17,8 +17,9 @@ use Rattle.model.specs.Tables.{Contract, inputRow}
 use Rattle.model.specs.Admission.{mostFacts}
 use Rattle.model.specs.Expressions.{Child, left, right}
 use Rattle.model.specs.Facts.{FactSet, noFacts, onSide, factNumber, factsAt}
-use Rattle.model.specs.Kinds.{RootMarks, emptyMarks, marksOver, marksIn, factsIn, bitOfFact, stateIn, reachedNext, reachedEmpty, nextKind, emptyKind, kindWords}
+use Rattle.model.specs.Kinds.{RootMarks, emptyMarks, marksOver, factsIn, bitOfFact, stateIn, reachedNext, reachedEmpty, nextKind, emptyKind, kindWords}
 use Rattle.model.proofs.Laws.Established.{Established}
+use Rattle.model.proofs.Laws.RootMarks.{marks-five}
 use Rattle.model.proofs.Laws.Facts.{SameFacts, words-same, facts-at-same, fact-number-lt, right-side-well-formed, length-words, words-below}
 use Rattle.kind_words.specs.Blocks.{zeros, Words}
 use Rattle.kind_words.specs.Marked.{unmarkedKind, firstWordMarked, words-marked}
@@ -45,10 +46,6 @@ module _ (C : Contract) (known : Established C) where
   states-five : (k : List ℕ) (q : ℕ) → stateIn C k q ≡ stateIn C (take 5 k) q
   unfolding stateIn
   states-five k q = ap (λ (w : ℕ). bit w q) (sym (getD-take 5 k 0 0 (omega arith)))
-
-  marks-five : (k : List ℕ) → marksIn k ≡ marksIn (take 5 k)
-  unfolding marksIn
-  marks-five k = rw (getD-take 5 k 0 0 (omega arith))
 
   pub kind-five : (s : ℕ) (l r : List ℕ) → nextKind C s l r ≡ nextKind C s (take 5 l) (take 5 r)
   unfolding nextKind reachedNext

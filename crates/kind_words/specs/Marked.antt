@@ -3,14 +3,13 @@ use mathlib.Core.Path.{_≡_}
 use mathlib.Core.List.{List, [], _∷_, _++_}
 use mathlib.Core.Bool.{Bool, false}
 use Prim.Native.Nat.{ℕ, _^_, _<_, _≤_}
-use native.Mathlib.Nat.{lt-of-lt-of-le}
 use native.Mathlib.Omega.{arith}
 use lib.ListN.{getD, set}
-use lib.Pow.{pow-mono}
-use Rattle.foundation.specs.Words.{word, word-lt}
+use Rattle.foundation.specs.Words.{word}
 use Rattle.model.specs.Tables.{Contract}
 use Rattle.model.specs.Facts.{FactSet, onSide, factsAt}
 use Rattle.model.specs.Kinds.{RootMarks, rootBit, marksOver, withMarks, marksIn, reachedNext, stateIn, factsIn, kindWords, nextKind}
+use Rattle.model.proofs.Laws.RootMarks.{states-below-marks}
 
 abbrev pub noMarks : RootMarks
 noMarks = record { oneRoot = false; isEmpty = false }
@@ -28,6 +27,11 @@ unmarkedKind C s l r =
 abbrev pub firstWordMarked : RootMarks → List ℕ → List ℕ
 firstWordMarked marks kind = set kind 0 (withMarks marks (getD kind 0 0))
 
+-- .. step by step
+pub first-marked : (marks : RootMarks) {kind unmarked : List ℕ} {word : ℕ} → kind ≡ unmarked → word ≡ withMarks marks (getD kind 0 0)
+    → set kind 0 word ≡ firstWordMarked marks unmarked
+first-marked marks e f = rw (f, e)
+
 module _ (C : Contract) where
   pub words-marked : (marks : RootMarks) (reaches : ℕ → Bool) (facts : FactSet)
       → firstWordMarked marks (kindWords C noMarks reaches facts ++ (0 ∷ [])) ≡ kindWords C marks reaches facts ++ (0 ∷ [])
@@ -39,8 +43,7 @@ module _ (C : Contract) where
   unfolding unmarkedKind nextKind
   next-marked s l r = words-marked _ _ _
 
-  -- at most 32 input states leave the bits of the marks free
   pub unmarked-small : C .input .states ≤ 32 → (s : ℕ) (l r : List ℕ) → getD (unmarkedKind C s l r ++ (0 ∷ [])) 0 0 < 2 ^ rootBit
   unfolding unmarkedKind kindWords
   unmarked-small few s l r =
-      rw no-marks-added (lt-of-lt-of-le (word-lt (C .input .states) (reachedNext (C .input) s (stateIn C l) (stateIn C r))) (pow-mono few))
+      rw no-marks-added (states-below-marks (C .input .states) (reachedNext (C .input) s (stateIn C l) (stateIn C r)) few)

@@ -16,7 +16,7 @@ pub fn has_one_root(kind: &[u64; 6]) -> bool
 }
 
 // Whether a kind is the empty forest's.
-pub fn is_empty(kind: &[u64; 6]) -> bool
+fn is_empty(kind: &[u64; 6]) -> bool
     ensures { λ r. ⌜ r ≡ marksIn (now (kind .entry)) .isEmpty ⌝ }
 {
     (kind[0] >> EMPTY_BIT) & 1 == 1

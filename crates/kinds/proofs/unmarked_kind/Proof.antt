@@ -30,8 +30,9 @@ returns c =
     let s = c .before .before .before .before .before .before .before .before .args .symbol .0 in
     let left = c .before .before .before .before .before .before .before .before .args .left .now in
     let right = c .before .before .before .before .before .before .before .before .args .right .now in
-    kind-steps _ _ _ _ _ _ _ _ (c .before .before .before .before .before .before .before .before .args .room .now) s left right _ _ _ (c .before .before .before .before .before .fill-words-for .ensures) (c .before .before .before .facts-for .ensures) (c .states-for .ensures)
-    ∙ kind-form-is _ _ _ _ made (c .before .before .before .before .before .before .before .before .args .room .now) (omega (arith, made .established .nodes .few)) s (c .before .before .before .before .before .before .before .before .pre .1) left right (c .before .before .before .before .before .before .before .before .pre .2) (c .before .before .before .before .before .before .before .before .pre .3)
+    let room = c .before .before .before .before .before .before .before .before .args .room .now in
+    kind-steps _ _ _ _ _ _ _ _ room s left right _ _ _ (c .before .before .before .before .before .fill-words-for .ensures) (c .before .before .before .facts-for .ensures) (c .states-for .ensures)
+    ∙ kind-form-is _ _ _ _ made room (omega (arith, made .established .nodes .few)) s (c .before .before .before .before .before .before .before .before .pre .1) left right (c .before .before .before .before .before .before .before .before .pre .2) (c .before .before .before .before .before .before .before .before .pre .3)
 
 pub unmarked-kind-spec : {M : Type 1} → statement M
 unmarked-kind-spec =

@@ -21,7 +21,7 @@ use Rattle.model.specs.Expressions.{Child, left, right, Expression, para
 use Rattle.model.specs.Outputs.{rightSide}
 use Rattle.model.specs.Facts.{FactSet, onSide, yields, yieldsAll, factsAt, digits, code, offset, factTotal, factNumber, numberedFrom, numbered}
 use Rattle.model.specs.Kinds.{RootMarks, rootBit, emptyBit, withMarks, marksIn, numberedFact, kindWords, stateIn, bitOfFact, factsIn}
-use Rattle.model.proofs.Laws.RootMarks.{with-marks-lt, state-beside-marks, root-bit, empty-bit, no-bit-above-marks}
+use Rattle.model.proofs.Laws.RootMarks.{same-marks, states-below-marks, with-marks-lt, state-beside-marks, root-bit, empty-bit, no-bit-above-marks}
 use Rattle.model.proofs.Laws.Established.{Established, GoodNode, good-parameter, good-nothing, good-symbol, good-call}
 use Rattle.model.proofs.Laws.Expressions.{expression-parameter, expression-nothing, expression-symbol, expression-call}
 
@@ -234,20 +234,20 @@ SameFactsOf C facts facts′ = SameFacts (C .output .states) (C .transformation 
 module _ (C : Contract) (marks : RootMarks) (reaches : ℕ → Bool) (facts : FactSet) where
   -- at most 32 input states leave the bits of the marks free
   module _ (few : C .input .states ≤ 32) where
-    states-below-marks : word (C .input .states) reaches < 2 ^ rootBit
-    states-below-marks = lt-of-lt-of-le (word-lt (C .input .states) reaches) (pow-mono few)
+    free : word (C .input .states) reaches < 2 ^ rootBit
+    free = states-below-marks (C .input .states) reaches few
 
     -- "word 0 has a bit for each input state the tree reaches"
     pub state-in-words : (q : ℕ) → q < C .input .states → stateIn C (kindWords C marks reaches facts) q ≡ reaches q
     unfolding stateIn kindWords
     state-in-words q h =
-        state-beside-marks marks _ states-below-marks q (omega arith) ∙ bit-word (C .input .states) reaches q h
+        state-beside-marks marks _ free q (omega arith) ∙ bit-word (C .input .states) reaches q h
 
     -- "two marks in word 0"
     pub marks-in-words : marksIn (kindWords C marks reaches facts) ≡ marks
     unfolding marksIn kindWords
     marks-in-words =
-        ap₂ (λ (one none : Bool). record { oneRoot = one; isEmpty = none }) (root-bit marks _ states-below-marks) (empty-bit marks _ states-below-marks)
+        same-marks (root-bit marks _ free) (empty-bit marks _ free)
 
     -- and no other bit
     pub no-state-in-words : (q : ℕ) → C .input .states ≤ q → (q ≡ rootBit → ⊥) → (q ≡ emptyBit → ⊥) → stateIn C (kindWords C marks reaches facts) q ≡ false
@@ -256,12 +256,12 @@ module _ (C : Contract) (marks : RootMarks) (reaches : ℕ → Bool) (facts : Fa
       where
         go : Dec (q < rootBit) → bit (withMarks marks (word (C .input .states) reaches)) q ≡ false
         go (yes l) =
-            state-beside-marks marks _ states-below-marks q l ∙ bit-high (word (C .input .states) reaches) (C .input .states) q (word-lt (C .input .states) reaches) h
-        go (no l) = no-bit-above-marks marks _ states-below-marks q (omega arith)
+            state-beside-marks marks _ free q l ∙ bit-high (word (C .input .states) reaches) (C .input .states) q (word-lt (C .input .states) reaches) h
+        go (no l) = no-bit-above-marks marks _ free q (omega arith)
 
     pub words-below : (j : ℕ) → getD (kindWords C marks reaches facts) j 0 < 2 ^ 64
     unfolding kindWords
-    words-below zero = lt-of-lt-of-le (with-marks-lt marks _ states-below-marks) (pow-mono {i = 34} {j = 64} (omega arith))
+    words-below zero = lt-of-lt-of-le (with-marks-lt marks _ free) (pow-mono {i = 34} {j = 64} (omega arith))
     words-below (suc zero) = word-lt 64 (λ b. numberedFact C facts b)
     words-below (suc (suc zero)) = word-lt 64 (λ b. numberedFact C facts (64 + b))
     words-below (suc (suc (suc zero))) = word-lt 64 (λ b. numberedFact C facts (128 + b))

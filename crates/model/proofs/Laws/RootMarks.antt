@@ -1,17 +1,34 @@
 -- Laws of the two marks in word 0 of a kind: what is marked is read back, and the bits of the input states stand beside it.
-use mathlib.Core.Path.{_≡_, refl, _∙_}
+use mathlib.Core.Path.{_≡_, refl, ap₂, _∙_}
 use mathlib.Core.Bool.{Bool, true, false}
+use mathlib.Core.List.{List}
 use Prim.Native.Nat.{ℕ, _+_, _*_, _^_, _<_, _≤_}
+use native.Mathlib.Nat.{lt-of-lt-of-le}
 use native.Mathlib.Omega.{arith}
-use Rattle.foundation.specs.Words.{bit, one-if}
+use lib.ListN.{take}
+use lib.Pow.{pow-mono}
+use lib.Seq.{getD-take}
+use Rattle.foundation.specs.Words.{bit, word, one-if, topped-lt, word-lt}
 use Rattle.foundation.specs.Bits.{bit-below, bit-above, bit-high}
-use Rattle.model.specs.Kinds.{RootMarks, rootBit, emptyBit, withMarks}
+use Rattle.model.specs.Kinds.{RootMarks, rootBit, emptyBit, withMarks, marksIn}
 
 -- the one bit of a mark
 mark-bit : (b : Bool) → bit (one-if b) 0 ≡ b
 unfolding bit
 mark-bit true = refl
 mark-bit false = refl
+
+pub same-marks : {marks marks′ : RootMarks} → marks .oneRoot ≡ marks′ .oneRoot → marks .isEmpty ≡ marks′ .isEmpty → marks ≡ marks′
+same-marks e f = ap₂ (λ (one none : Bool). record { oneRoot = one; isEmpty = none }) e f
+
+-- the marks of a kind stand in its first five words
+pub marks-five : (kind : List ℕ) → marksIn kind ≡ marksIn (take 5 kind)
+unfolding marksIn
+marks-five kind = rw (getD-take 5 kind 0 0 (omega arith))
+
+-- at most 32 input states leave the bits of the marks free
+pub states-below-marks : (states : ℕ) (reaches : ℕ → Bool) → states ≤ 32 → word states reaches < 2 ^ rootBit
+states-below-marks states reaches few = lt-of-lt-of-le (word-lt states reaches) (pow-mono few)
 
 -- the bits of at most 32 input states, with the marks
 module _ (marks : RootMarks) (states : ℕ) (few : states < 2 ^ rootBit) where
@@ -20,19 +37,11 @@ module _ (marks : RootMarks) (states : ℕ) (few : states < 2 ^ rootBit) where
   rooted = states + one-if (marks .oneRoot) * 2 ^ rootBit
 
   rooted-lt : rooted < 2 ^ emptyBit
-  rooted-lt = go (marks .oneRoot)
-    where
-      go : (b : Bool) → states + one-if b * 2 ^ rootBit < 2 ^ emptyBit
-      go true = omega arith
-      go false = omega arith
+  rooted-lt = topped-lt rootBit states (marks .oneRoot) few
 
   pub with-marks-lt : withMarks marks states < 2 ^ 34
   unfolding withMarks
-  with-marks-lt = go (marks .isEmpty) rooted-lt
-    where
-      go : (b : Bool) → rooted < 2 ^ emptyBit → rooted + one-if b * 2 ^ emptyBit < 2 ^ 34
-      go true h = omega arith
-      go false h = omega arith
+  with-marks-lt = topped-lt emptyBit rooted (marks .isEmpty) rooted-lt
 
   -- the states keep their bits
   pub state-beside-marks : (q : ℕ) → q < rootBit → bit (withMarks marks states) q ≡ bit states q

@@ -19,6 +19,7 @@ use Rattle.model.specs.Judging.{judgement}
 use Rattle.model.specs.Claims.{Reaches, Takes, Allows, Breaks}
 use Rattle.model.specs.Meaning.{Judges}
 use Rattle.model.proofs.Laws.Established.{Established}
+use Rattle.model.proofs.Laws.RootMarks.{same-marks}
 use Rattle.model.proofs.Laws.Facts.{FactOf, factCount, SameFactsOf, same-facts-chain, same-facts-sides, state-in-words, marks-in-words, no-state-in-words, facts-in-words, no-fact-in-words, length-words, words-below, words-same, facts-at-same, right-side-well-formed}
 use Rattle.model.proofs.Meaning.Facts.{fact-holds, fact-output, state-of-below}
 
@@ -97,7 +98,7 @@ marked-over s l r marks m = record { oneRoot = m .isEmpty; isEmpty = (λ x. x, �
 -- a tree is marked in one way
 marked-same : (t : Tree) (marks marks′ : RootMarks) → Marked t marks → Marked t marks′ → marks ≡ marks′
 marked-same t marks marks′ m n =
-    ap₂ (λ (one none : Bool). record { oneRoot = one; isEmpty = none }) (tests-equal (m .oneRoot) (n .oneRoot)) (tests-equal (m .isEmpty) (n .isEmpty))
+    same-marks (tests-equal (m .oneRoot) (n .oneRoot)) (tests-equal (m .isEmpty) (n .isEmpty))
 
 -- two trees reach the same input states, both have one root or neither, both are empty or neither, and the same facts hold of them
 pub record Alike (C : Contract) (t t′ : Tree) : Type 0 where
