@@ -12,8 +12,8 @@ static const uint16_t nodes[] = {1, 0, 0, 0, 0, 2, 0, 1, 0, 0, 2, 0, 2, 0, 0,
 static const uint16_t first_table[] = {0, 0, 1, 1, 1, 0, 1, 1, 1, 0, 1, 1, 1, 1, 1, 1, 1}, first_marks[] = {1, 0};
 static const uint16_t second_table[] = {0, 0, 1, 1, 1, 0, 1, 0, 1, 1, 1, 1, 1, 0, 1, 1, 1}, second_marks[] = {1, 0};
 
-/* Any configuration: state 0 whatever it may hold, 1 the configuration. The rows let anything follow it, but only documents
- * with one root count. */
+/* Any configuration: state 0 whatever it may hold, 1 the configuration. The rows let the same stand behind it, but only
+ * documents with one root count. */
 static const uint16_t any_rows[] = {0, 0, 0, 0, 0, 2, 0, 0, 0, 3, 0, 0, 0, 4, 0, 0, 1, 1, 0, 0}, any_marks[] = {0, 1};
 /* Those whose ports stand in VLANs: state 0 outside a VLAN, 1 inside one or inside a comment, 2 the configuration. */
 static const uint16_t placed_rows[] = {0, 0, 0, 0, 0, 2, 1, 0, 0, 4, 1, 0, 1, 0, 0, 0,

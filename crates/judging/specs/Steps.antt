@@ -1,12 +1,11 @@
 -- Judging step by step: each refusal and the judgement, as the definition gives them.
 use mathlib.Core.Path.{_≡_, refl, ap, ap₂, subst, sym, _∙_}
 use mathlib.Core.List.{List, [], _∷_, _++_}
-use mathlib.Core.Bool.{Bool, true}
+use mathlib.Core.Bool.{Bool}
 use Prim.Native.Nat.{ℕ}
 use lib.ListN.{length, take}
 use borrow.Author.Tests.{eq-eqb, ne-eqb}
 use Rattle.foundation.specs.Tests.{choose}
-use Rattle.foundation.specs.TestLaws.{and-first}
 use Rattle.model.specs.Tables.{Contract}
 use Rattle.model.specs.Trees.{Tree}
 use Rattle.model.specs.Kinds.{kindOf}
@@ -37,16 +36,12 @@ abbrev pub judgedTree : Contract → Tree → ℕ → Judged
 judgedTree C t taken = record { answer = judged (judgement C (kindOf C t)) taken; words = kindOf C t }
 
 -- 0, not taken; 1, taken and not breaking the contract; 2, taken and breaking
-abbrev pub judgementBy : (takes breaks : Bool) → ℕ
-judgementBy takes breaks = choose takes (choose breaks 2 1) 0
+abbrev pub judgementBy : (taken breaking : Bool) → ℕ
+judgementBy taken breaking = choose taken (choose breaking 2 1) 0
 
 -- what the two words of a contract, and the mark of one root, tell of a kind
 abbrev pub told : Verdicts → List ℕ → ℕ
 told v kind = judgementBy (taking (v .accepted) kind) (breaking (v .accepted) (v .refused) kind)
-
--- a breaking kind is taken
-pub told-breaking : (v : Verdicts) (kind : List ℕ) → breaking (v .accepted) (v .refused) kind ≡ true → 2 ≡ told v kind
-told-breaking v kind e = ap₂ judgementBy (sym (and-first (taking (v .accepted) kind) _ e)) (sym e)
 
 -- which is the judgement; the kind of a tree is held with a sixth word, and written without
 pub comes-judged : (C : Contract) (v : Verdicts) (t : Tree) (result taken : ℕ) (held written : List ℕ) → Established C

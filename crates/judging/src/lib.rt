@@ -8,7 +8,7 @@ ghost use Rattle.model.specs.Judging.{judging};
 ghost use Rattle.model.proofs.Laws.Documents.{Document};
 ghost use Rattle.answers.specs.Numbers.{judgementResult, judgingAnswer};
 ghost use Rattle.prepared.specs.Parts.{contractIn, Ready};
-ghost use Rattle.judging.specs.Steps.{Comes, judgedTree, told};
+ghost use Rattle.judging.specs.Steps.{Comes, judgedTree, judgementBy, told};
 use admission::admit;
 use answers::AdmissionAnswer;
 use answers::Judgement;
@@ -37,17 +37,24 @@ fn write_kind(words: &[u64; 6], kind: &mut [u64])
     }
 }
 
-// What a kind tells of its document.
-fn judgement_of(verdicts: Verdicts, kind: &[u64; 6]) -> Judgement
-    ensures { λ r. ⌜ judgementResult r ≡ told verdicts (now (kind .entry)) ⌝ }
+// The judgement of a document that the contract takes or not, and that breaks it or not.
+fn judgement_by(taken: bool, breaking: bool) -> Judgement
+    ensures { λ r. ⌜ judgementResult r ≡ judgementBy «taken» «breaking» ⌝ }
 {
-    if is_taken(verdicts, kind) {
-        if breaks(verdicts, kind) {
+    if taken {
+        if breaking {
             return Judgement::Breaking;
         }
         return Judgement::Sound;
     }
     Judgement::Outside
+}
+
+// What a kind tells of its document.
+fn judgement_of(verdicts: Verdicts, kind: &[u64; 6]) -> Judgement
+    ensures { λ r. ⌜ judgementResult r ≡ told verdicts (now (kind .entry)) ⌝ }
+{
+    judgement_by(is_taken(verdicts, kind), breaks(verdicts, kind))
 }
 
 // Judges a document, which is all of the numbers, by a prepared contract: the kind of its tree is written, and tells the judgement.

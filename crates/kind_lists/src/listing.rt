@@ -57,8 +57,8 @@ fn find_kind(words: &[u64], count: usize, kind: &[u64; 6]) -> usize
     count
 }
 
-// The slot of a kind, which names a row to compare first. The two halves are laid over each other 29 bits apart, so that the marks of
-// roots do not fall on input states 0 and 1.
+// The slot of a kind, which names a row to compare first. Bits 29 and up are laid over the low ones: the marks of roots then meet input
+// states 3 and 4, and not 0 and 1, which every contract of few states has.
 fn slot_of(kind: &[u64; 6]) -> usize
     ensures { λ r. ⌜ r < 1024 ⌝ }
 {

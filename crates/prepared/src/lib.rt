@@ -1,5 +1,6 @@
 // A prepared contract: its tables one behind another in one table of numbers, with what is made of them once, and beside the
-// table the numbers that are no list: sizes, the layout of words, where each part ends, the words that tell a breaking kind.
+// table the numbers that are no list: sizes, the layout of words, where each part ends, the words that, with the mark of one root, tell a
+// breaking kind.
 ghost use mathlib.Core.Path.{_≡_};
 ghost use Prim.Native.Nat.{_<_};
 ghost use Rattle.kind_words.specs.Sizes.{mostSymbols, nextRows};

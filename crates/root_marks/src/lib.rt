@@ -1,6 +1,7 @@
 // The two marks in word 0 of a kind, bits 32 and 33: that its trees have one root, and that it is the empty forest's.
 ghost use mathlib.Core.Path.{_≡_};
-ghost use Prim.Native.Nat.{_^_, _<_};
+ghost use Prim.Native.Nat.{_*_, _^_, _<_, _≤_};
+ghost use Rattle.foundation.specs.Words.{one-if};
 ghost use Rattle.model.specs.Kinds.{rootBit, emptyBit, emptyMarks, marksOver, marksIn, withMarks};
 
 // The bits of the two marks.
@@ -37,13 +38,21 @@ pub fn marked_empty(states: u64) -> u64
     states + empty_mark()
 }
 
+// The mark of one root, or 0 where there is not one root; and that it is small enough to be added.
+fn root_mark(one_root: bool) -> u64
+    ensures { λ r. ⌜ (r ≡ one-if «one_root» * 2 ^ rootBit) × (r ≤ 2 ^ rootBit) ⌝ }
+{
+    if one_root {
+        return 1u64 << ROOT_BIT;
+    }
+    0
+}
+
 // The states of a symbol over two kinds, with its mark: one root, where the right kind is the empty forest's.
 pub fn marked_over(states: u64, right: &[u64; 6]) -> u64
     requires { ⌜ states < 2 ^ rootBit ⌝ }
     ensures { λ r. ⌜ r ≡ withMarks (marksOver (marksIn (now (right .entry)))) states ⌝ }
 {
-    if is_empty(right) {
-        return states + (1u64 << ROOT_BIT);
-    }
-    states
+    let mark = root_mark(is_empty(right));
+    states + mark
 }

@@ -1,4 +1,5 @@
--- The worked contracts of document 01, and a small contract for each of its false readings.
+-- The worked contracts of document 01, a small contract for each of its false readings, and one that only trees of several roots would
+-- break.
 use mathlib.Core.List.{List, [], _∷_}
 use Prim.Native.Nat.{ℕ}
 use Rattle.model.specs.Tables.{Contract, contract}
