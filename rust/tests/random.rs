@@ -331,7 +331,7 @@ fn a_model_agrees_with_itself() {
 enum Wrong {
     /// The buffers of a check stay as they were.
     Untouched,
-    /// A tree that is not taken is judged 2 where its states and facts would break the contract, whatever its roots.
+    /// A tree that has not one root is judged 2 where its states and facts would break the contract.
     AnyRoots,
     /// The kinds that a check lists are without marks.
     Unmarked,

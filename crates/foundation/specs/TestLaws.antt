@@ -1,7 +1,7 @@
--- Equations of tests: what a connective gives beside a constant, the parts of one that holds or fails, and "some number below n" beside a
+-- Equations of tests: what a connective gives beside a constant, the parts of one that fails, and "some number below n" beside a
 -- single number.
 use mathlib.Core.Path.{_≡_, refl, ap, sym, _∙_}
-use mathlib.Core.Bool.{Bool, true, false, _&&_, _||_, true≢false}
+use mathlib.Core.Bool.{Bool, true, false, _||_, true≢false}
 use Prim.Native.Nat.{ℕ, zero, suc, _<_}
 use native.Mathlib.Nat.{not-suc-le-zero}
 use native.Mathlib.Omega.{arith}
@@ -41,11 +41,6 @@ or-false false b e = e
 pub false-or : (a b : Bool) → a ≡ false → (a or b) ≡ b
 unfolding _or_
 false-or a b e = rw e
-
--- a conjunction that holds, its first part
-pub and-first : (a b : Bool) → (a && b) ≡ true → a ≡ true
-and-first true b e = refl
-and-first false b e = e
 
 -- a disjunction that fails, part by part
 pub or-first : (a b : Bool) → (a || b) ≡ false → a ≡ false

@@ -36,8 +36,8 @@ abbrev pub judgedTree : Contract → Tree → ℕ → Judged
 judgedTree C t taken = record { answer = judged (judgement C (kindOf C t)) taken; words = kindOf C t }
 
 -- 0, not taken; 1, taken and not breaking the contract; 2, taken and breaking
-abbrev pub judgementBy : (taken breaking : Bool) → ℕ
-judgementBy taken breaking = choose taken (choose breaking 2 1) 0
+abbrev pub judgementBy : (takes broken : Bool) → ℕ
+judgementBy takes broken = choose takes (choose broken 2 1) 0
 
 -- what the two words of a contract, and the mark of one root, tell of a kind
 abbrev pub told : Verdicts → List ℕ → ℕ

@@ -38,11 +38,11 @@ fn write_kind(words: &[u64; 6], kind: &mut [u64])
 }
 
 // The judgement of a document that the contract takes or not, and that breaks it or not.
-fn judgement_by(taken: bool, breaking: bool) -> Judgement
-    ensures { λ r. ⌜ judgementResult r ≡ judgementBy «taken» «breaking» ⌝ }
+fn judgement_by(takes: bool, broken: bool) -> Judgement
+    ensures { λ r. ⌜ judgementResult r ≡ judgementBy «takes» «broken» ⌝ }
 {
-    if taken {
-        if breaking {
+    if takes {
+        if broken {
             return Judgement::Breaking;
         }
         return Judgement::Sound;

@@ -57,8 +57,8 @@ fn find_kind(words: &[u64], count: usize, kind: &[u64; 6]) -> usize
     count
 }
 
-// The slot of a kind, which names a row to compare first. Bits 29 and up are laid over the low ones: the marks of roots then meet input
-// states 3 and 4, and not 0 and 1, which every contract of few states has.
+// The slot of a kind, which names a row to compare first. Bits 29 to 60 are laid over the low ones: the marks of roots then meet input
+// states 3 and 4, and not 0 and 1, which contracts of few states have.
 fn slot_of(kind: &[u64; 6]) -> usize
     ensures { λ r. ⌜ r < 1024 ⌝ }
 {

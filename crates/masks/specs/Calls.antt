@@ -13,7 +13,6 @@ use lib.Dec.{eqb}
 use lib.ListN.{length, getD, set, replicate}
 use lib.Seq.{getD-set-same, getD-set-other}
 use lib.Pow.{pow-pos, pow-mono}
-use Rattle.foundation.specs.TestLaws.{and-first}
 use Rattle.foundation.specs.Tests.{choose, _or_, or-left, or-right, true-test, test-true, false-test}
 use Rattle.foundation.specs.Words.{bit}
 use Rattle.foundation.specs.Bits.{bit-shl, bit-ones, bit-or}
@@ -96,6 +95,10 @@ pub record Shown (O : ℕ) (counts nodes : List ℕ) (list : ℕ → ℕ) (onRig
 shown-none : (O : ℕ) (counts nodes : List ℕ) (list : ℕ → ℕ) (onRight : Bool) → Shown O counts nodes list onRight 0 (replicate 6 0)
 shown-none O counts nodes list onRight = record { facts = 0; holds = nothing-holds; called = λ i h. absurd (omega arith) }
 
+pub first-true : (a b : Bool) → (a && b) ≡ true → a ≡ true
+first-true true b e = refl
+first-true false b e = e
+
 or-true-left : (a b : Bool) → a ≡ true → (a or b) ≡ true
 or-true-left a b e = test-true _ (or-left a b (true-test a e))
 
@@ -153,7 +156,7 @@ module _ (C : Contract) (known : Established C) where
           old j t (yes q) l = absurd (false-test true (sym t ∙ ap (λ (m : ℕ). callsOn onRight (nodeAt nodes (list m))) q ∙ e) tt)
           old j t (no nq) l = s .called j (omega arith) t
       go true e =
-          let l : nodeAt nodes (list i) .name < length counts = called-known (list i) h (eqb-true _ _ (and-first _ _ e)) in
+          let l : nodeAt nodes (list i) .name < length counts = called-known (list i) h (eqb-true _ _ (first-true _ _ e)) in
           record {
             facts = bitOr (s .facts) (block * 2 ^ from);
             holds = block-holds mask (s .facts) block from (s .holds) (small l) (near l);

@@ -7,8 +7,7 @@ use borrow.Author.Tests.{eqb-true}
 use lib.Dec.{eqb}
 use lib.ListN.{getD}
 use Rattle.kind_words.specs.Blocks.{withBlock}
-use Rattle.foundation.specs.TestLaws.{and-first}
-use Rattle.masks.specs.Calls.{onesFor, withCall}
+use Rattle.masks.specs.Calls.{onesFor, withCall, first-true}
 use borrow.Author.Needs.{needs}
 use Rattle.masks.proofs.put_call.Statement.{statement}
 use Rattle.masks.proofs.put_call.Tie as tie
@@ -23,7 +22,7 @@ mul-ones-for : tie.Need-mul-ones-for
 mul-ones-for c = search needs
 
 shared-slice-read-ones-for : tie.Need-shared-slice-read-ones-for
-shared-slice-read-ones-for c = rw (c .before .place .ensures) (c .before .before .before .before .before .before .before .pre .named (eqb-true _ _ (and-first _ _ (c .before .before .if1 .taken))))
+shared-slice-read-ones-for c = rw (c .before .place .ensures) (c .before .before .before .before .before .before .before .pre .named (eqb-true _ _ (first-true _ _ (c .before .before .if1 .taken))))
 
 ones-for-requires : tie.Need-ones-for-requires
 ones-for-requires c κs = (c .before .before .before .before .before .before .before .pre .least, c .before .before .before .before .before .before .before .pre .most, rw (c .before .place .ensures) (c .before .before .before .before .before .before .before .pre .few))
@@ -32,13 +31,13 @@ mul-place : tie.Need-mul-place
 mul-place c = search needs
 
 element-copy-out-place : tie.Need-element-copy-out-place
-element-copy-out-place c = omega (arith, c .before .before .before .place .ensures, c .before .before .before .before .before .before .before .before .before .pre .named (eqb-true _ _ (and-first _ _ (c .before .before .before .before .if1 .taken))), c .before .before .before .before .before .before .before .before .before .pre .procedures)
+element-copy-out-place c = omega (arith, c .before .before .before .place .ensures, c .before .before .before .before .before .before .before .before .before .pre .named (eqb-true _ _ (first-true _ _ (c .before .before .before .before .if1 .taken))), c .before .before .before .before .before .before .before .before .before .pre .procedures)
 
 place-requires-2 : tie.Need-place-requires-2
 place-requires-2 c κs = search needs
 
 put-block-requires : tie.Need-put-block-requires
-put-block-requires c κs = rw (c .place2 .ensures, c .before .before .before .before .before .place .ensures) (c .before .before .before .before .before .before .before .before .before .before .before .pre .near (eqb-true _ _ (and-first _ _ (c .before .before .before .before .before .before .if1 .taken))))
+put-block-requires c κs = rw (c .place2 .ensures, c .before .before .before .before .before .place .ensures) (c .before .before .before .before .before .before .before .before .before .before .before .pre .near (eqb-true _ _ (first-true _ _ (c .before .before .before .before .before .before .if1 .taken))))
 
 returns : tie.Need-returns
 unfolding withCall

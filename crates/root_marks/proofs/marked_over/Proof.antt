@@ -1,4 +1,4 @@
--- By the definition: the mark is added where the right kind has its own.
+-- By the definition: what is added is the mark where the right kind has its own, and 0 elsewhere.
 use native.Mathlib.Omega.{arith}
 use borrow.Author.Needs.{needs}
 use Rattle.model.specs.Kinds.{withMarks}
