@@ -1,42 +1,60 @@
 -- What an offer comes to, by cases.
-use mathlib.Core.Path.{_≡_, subst, sym, _∙_}
+use mathlib.Core.Path.{_≡_, ap, subst, sym, _∙_}
 use mathlib.Core.Bool.{Bool, true, false}
 use mathlib.Core.List.{List}
-use Prim.Native.Nat.{ℕ, _+_, _<_}
-use borrow.Author.Tests.{eq-eqb, ne-eqb}
+use Prim.Native.Nat.{ℕ, _+_, _≤_, _<_}
+use native.Mathlib.Omega.{arith}
+use borrow.Author.Tests.{eq-eqb, ne-eqb, lt-ltb, le-ltb}
+use lib.ListN.{set}
 use Rattle.foundation.specs.Tests.{choose}
 use Rattle.breaking.specs.Verdicts.{breaking}
 use Rattle.breaking.specs.declared.Verdicts.{Verdicts}
-use Rattle.kind_lists.specs.Listing.{kindListed, withRow, withKind, Offering, Becomes, offering}
+use Rattle.kind_slots.specs.Stored.{kindPlace, kindListed, withKind}
+use Rattle.kind_slots.specs.Slots.{slotOf, rowIn, entryOf, Entered}
+use Rattle.kind_slots.proofs.Finding.{slots-find}
+use Rattle.kind_lists.specs.Listing.{withRow, Offering, Becomes, offering}
 use Rattle.kind_lists.specs.Closing.{rowsStanding}
 use Rattle.kind_lists.specs.declared.Progress.{Progress}
 use Rattle.kind_lists.specs.declared.Progress.the-variants as progress
 
-module _ (v : Verdicts) (limit n symbol left right : ℕ) (kind rows words : List ℕ) {listed : Bool} (told : listed ≡ kindListed words n kind) where
+module _ (v : Verdicts) (limit n symbol left right : ℕ) (kind slots rows words : List ℕ) (e : Entered words n slots) {slot : ℕ} (searched : slot ≡ slotOf words slots kind) {row : ℕ} (found : row ≡ rowIn slots slot n) where
   abbrev pub outcome : Offering
-  outcome = offering v limit n symbol left right kind rows words
+  outcome = offering v limit n symbol left right kind slots rows words
 
-  pub offer-old : listed ≡ true → Becomes outcome (progress.Going n) rows words
+  -- the slots tell the row that a search of the list would find
+  told : row ≡ kindPlace words n kind
+  told = found ∙ ap (λ (s : ℕ). rowIn slots s n) searched ∙ slots-find words n slots e kind
+
+  pub offer-old : row < n → Becomes outcome (progress.Going n) slots rows words
   unfolding offering
-  offer-old t = let e = sym told ∙ t in record { answer = rw e; rows = rw e; words = rw e }
+  offer-old l =
+      let old : kindListed words n kind ≡ true = lt-ltb (kindPlace words n kind) n (omega (arith, told)) in
+      record { answer = rw old; slots = rw old; rows = rw old; words = rw old }
 
-  module _ (t : listed ≡ false) where
+  module _ (l : n ≤ row) where
     new : kindListed words n kind ≡ false
-    new = sym told ∙ t
+    new = le-ltb (kindPlace words n kind) n (omega (arith, told))
 
-    pub offer-full : n ≡ limit → Becomes outcome progress.Full rows words
+    pub offer-full : n ≡ limit → Becomes outcome progress.Full slots rows words
     unfolding offering
-    offer-full f = let full = eq-eqb n limit f in record { answer = rw (new, full); rows = rw (new, full); words = rw (new, full) }
+    offer-full f =
+        let full = eq-eqb n limit f in
+        record { answer = rw (new, full); slots = rw (new, full); rows = rw (new, full); words = rw (new, full) }
 
     -- where there is a row left
     pub offer-stored : (n ≡ limit → ⊥) → {broken : Bool} → broken ≡ breaking (v .accepted) (v .refused) kind → (b : Bool) → broken ≡ b
-        → {rows′ words′ : List ℕ} → rows′ ≡ withRow rows n symbol left right → words′ ≡ withKind words n kind
-        → Becomes outcome (choose b (progress.Breaks n) (progress.Going (n + 1))) rows′ words′
+        → {slots′ rows′ words′ : List ℕ} → slots′ ≡ set slots slot (entryOf kind n) → rows′ ≡ withRow rows n symbol left right → words′ ≡ withKind words n kind
+        → Becomes outcome (choose b (progress.Breaks n) (progress.Going (n + 1))) slots′ rows′ words′
     unfolding offering
-    offer-stored f eb b e er ew =
+    offer-stored f eb b e es er ew =
         let room = ne-eqb n limit f in
         let verdict : breaking (v .accepted) (v .refused) kind ≡ b = sym eb ∙ e in
-        record { answer = rw (new, room, verdict); rows = rw (new, room) er; words = rw (new, room) ew }
+        record {
+          answer = rw (new, room, verdict);
+          slots = rw (new, room) (es ∙ ap (λ (s : ℕ). set slots s (entryOf kind n)) searched);
+          rows = rw (new, room) er;
+          words = rw (new, room) ew;
+        }
 
 -- the row that breaks a contract is few
 pub standing-small : (p : Progress) (j : ℕ) → p ≡ progress.Breaks j → rowsStanding p < 65536 → j + 1 < 65536

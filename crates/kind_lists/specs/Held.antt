@@ -21,7 +21,9 @@ use Rattle.model.specs.Kinds.{breaks}
 use Rattle.model.proofs.Laws.Established.{Established}
 use Rattle.breaking.specs.Verdicts.{breaking, VerdictsOf, breaking-is}
 use Rattle.breaking.specs.declared.Verdicts.{Verdicts}
-use Rattle.kind_lists.specs.Listing.{sameWords, sameKind, kindPlace, kindListed, withKind, withRow}
+use Rattle.kind_slots.specs.Stored.{kindIn, sameWords, sameKind, kindPlace, kindListed, withKind}
+use Rattle.kind_slots.proofs.Same.{all-five}
+use Rattle.kind_lists.specs.Listing.{withRow}
 
 -- a list of five is its five numbers
 pub five : (l : List ℕ) → length l ≡ 5 → l ≡ getD l 0 0 ∷ getD l 1 0 ∷ getD l 2 0 ∷ getD l 3 0 ∷ getD l 4 0 ∷ []
@@ -37,29 +39,11 @@ five (a ∷ b ∷ c ∷ d ∷ f ∷ g ∷ l) e = absurd (omega arith)
 pub front : (kind : List ℕ) → length kind ≡ 5 → (w : ℕ) → w < 5 → getD (kind ++ (0 ∷ [])) w 0 ≡ getD kind w 0
 front kind e w h = List·getD-append kind (0 ∷ []) 0 w (omega arith)
 
--- the kind of row j of the words
-abbrev pub kindIn : List ℕ → ℕ → List ℕ
-kindIn words j =
-    getD words (5 * j) 0 ∷ getD words (5 * j + 1) 0 ∷ getD words (5 * j + 2) 0 ∷ getD words (5 * j + 3) 0 ∷ getD words (5 * j + 4) 0 ∷ []
-
 -- the words of row j are five given ones
 same-words : (words : List ℕ) (j : ℕ) (kind : List ℕ) → length kind ≡ 5 → ((w : ℕ) → w < 5 → getD words (5 * j + w) 0 ≡ getD kind w 0) → kindIn words j ≡ kind
 same-words words j kind e h =
     let h0 : getD words (5 * j) 0 ≡ getD kind 0 0 = ap (λ (i : ℕ). getD words i 0) (omega arith) ∙ h 0 (omega arith) in
     rw (h0, h 1 (omega arith), h 2 (omega arith), h 3 (omega arith), h 4 (omega arith)) (sym (five kind e))
-
-both : (a b : Bool) → (a && b) ≡ true → (a ≡ true) × (b ≡ true)
-both true true e = (refl, refl)
-both true false e = (refl, e)
-both false b e = (e, absurd (let z : _≡_ {A = ℕ} 0 1 = cc in omega arith))
-
-pub all-five : (a b c d e : Bool) → ((((a && b) && c) && d) && e) ≡ true → (a ≡ true) × (b ≡ true) × (c ≡ true) × (d ≡ true) × (e ≡ true)
-all-five a b c d e t =
-    let p = both (((a && b) && c) && d) e t in
-    let q = both ((a && b) && c) d (p .0) in
-    let r = both (a && b) c (q .0) in
-    let s = both a b (r .0) in
-    (s .0, s .1, r .1, q .1, p .1)
 
 -- the test of five words, both ways
 pub same-kind-in : (words : List ℕ) (j : ℕ) (kind : List ℕ) → length kind ≡ 5 → sameKind words j (kind ++ (0 ∷ [])) ≡ true → kindIn words j ≡ kind

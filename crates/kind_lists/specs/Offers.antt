@@ -7,7 +7,7 @@ use native.Mathlib.Numerals.{add-one}
 use native.Mathlib.Omega.{arith}
 use borrow.Author.Tests.{eqb-true, eqb-false}
 use lib.Dec.{eqb}
-use lib.ListN.{length, length-append}
+use lib.ListN.{length, set, length-append}
 use lib.Seq.{getD-append-seam}
 use Rattle.foundation.specs.Tests.{choose}
 use Rattle.model.specs.Tables.{Contract}
@@ -22,7 +22,10 @@ use Rattle.model.proofs.Rounds.Stopping.{none-longer, none-snoc}
 use Rattle.model.proofs.Rounds.Buffers.{FiveWords}
 use Rattle.breaking.specs.Verdicts.{breaking, VerdictsOf}
 use Rattle.breaking.specs.declared.Verdicts.{Verdicts}
-use Rattle.kind_lists.specs.Listing.{kindListed, withRow, withKind, Offering, Becomes, offering}
+use Rattle.kind_slots.specs.Stored.{kindListed, withKind}
+use Rattle.kind_slots.specs.Slots.{slotOf, entryOf, Entered}
+use Rattle.kind_slots.proofs.Finding.{one-entered}
+use Rattle.kind_lists.specs.Listing.{withRow, Offering, Becomes, offering}
 use Rattle.kind_lists.specs.Held.{Holds, listed-has, not-listed, stored-held, breaks-padded}
 use Rattle.kind_lists.specs.Outcomes.{Unbroken, Overfull, Outcome}
 use Rattle.kind_lists.specs.declared.Progress.{Progress}
@@ -30,7 +33,7 @@ use Rattle.kind_lists.specs.declared.Progress.the-variants as progress
 
 -- a row is offered to a list that the buffers hold
 module _ (C : Contract) (known : Established C) (v : Verdicts) (verdicts : VerdictsOf (C .input .marks) (C .output .marks) v)
-    {limit n : ℕ} {rows words : List ℕ} (list : List (ListedKind C)) (u : Unbroken C limit n rows words list) (words-five : FiveWords C list)
+    {limit n : ℕ} {slots rows words : List ℕ} (list : List (ListedKind C)) (u : Unbroken C limit n slots rows words list) (words-five : FiveWords C list)
     (s i j : ℕ) (kind : List ℕ) (long : length kind ≡ 5) where
   abbrev row : ListedKind C
   row = record { symbol = s; left = i; right = j; state = kind }
@@ -39,11 +42,11 @@ module _ (C : Contract) (known : Established C) (v : Verdicts) (verdicts : Verdi
   grown = added (kindAutomaton C) list row
 
   abbrev offer : Offering
-  offer = offering v limit n s i j (kind ++ (0 ∷ [])) rows words
+  offer = offering v limit n s i j (kind ++ (0 ∷ [])) slots rows words
 
   module _ (begins : Beginning (kindAutomaton C) grown) where
     -- listed already
-    old-kind : kindListed words n (kind ++ (0 ∷ [])) ≡ true → Unbroken C limit n rows words grown
+    old-kind : kindListed words n (kind ++ (0 ∷ [])) ≡ true → Unbroken C limit n slots rows words grown
     old-kind t =
         let t′ : kindListed words (length list) (kind ++ (0 ∷ [])) ≡ true = rw (u .counted) at t in
         rw (added-listed (kindAutomaton C) (kinds-decided C) list row (listed-has C limit rows words list (u .holds) words-five kind long t′)) u
@@ -88,8 +91,15 @@ module _ (C : Contract) (known : Established C) (v : Verdicts) (verdicts : Verdi
             ap (λ (l : List (ListedKind C)). kindAt C l n) appended
             ∙ rw (u .counted) (ap (λ (r : ListedKind C). r .state) (getD-append-seam list row [] (emptyRow (kindAutomaton C))))
 
+        -- the slots have the row too
+        entered : Entered (withKind words n (kind ++ (0 ∷ []))) (n + 1) (set slots (slotOf words slots (kind ++ (0 ∷ []))) (entryOf (kind ++ (0 ∷ [])) n))
+        entered =
+            let counted = u .counted in
+            let fits = u .holds .fits in
+            one-entered words n slots (kind ++ (0 ∷ [])) (u .entered) (omega (arith, u .holds .few)) (omega (arith, u .holds .wordRoom)) t
+
         by-verdict : (b : Bool) → breaking (v .accepted) (v .refused) (kind ++ (0 ∷ [])) ≡ b
-            → Outcome C (λ m. Unbroken C limit m (withRow rows n s i j) (withKind words n (kind ++ (0 ∷ []))) grown) limit (withRow rows n s i j) (withKind words n (kind ++ (0 ∷ [])))
+            → Outcome C (λ m. Unbroken C limit m (set slots (slotOf words slots (kind ++ (0 ∷ []))) (entryOf (kind ++ (0 ∷ [])) n)) (withRow rows n s i j) (withKind words n (kind ++ (0 ∷ []))) grown) limit (withRow rows n s i j) (withKind words n (kind ++ (0 ∷ [])))
             (choose b (progress.Breaks n) (progress.Going (n + 1)))
         by-verdict true e =
             record {
@@ -103,21 +113,21 @@ module _ (C : Contract) (known : Established C) (v : Verdicts) (verdicts : Verdi
         by-verdict false e =
             let more : NoneBreaks C (suc (length list)) (list ++ (row ∷ [])) =
             none-snoc C list row (verdict false e) (subst (λ (k : ℕ). NoneBreaks C k list) (u .counted) (u .none)) in
-            record { counted = sym longer; holds = held; none = rw (add-one n, appended, u .counted) more }
+            record { counted = sym longer; entered = entered; holds = held; none = rw (add-one n, appended, u .counted) more }
 
     by-room : kindListed words n (kind ++ (0 ∷ [])) ≡ false → (b : Bool) → eqb n limit ≡ b
-        → Outcome C (λ m. Unbroken C limit m (offer .rows) (offer .words) grown) limit (offer .rows) (offer .words) (offer .answer)
+        → Outcome C (λ m. Unbroken C limit m (offer .slots) (offer .rows) (offer .words) grown) limit (offer .rows) (offer .words) (offer .answer)
     unfolding offering
     by-room t true e = rw (t, e) (no-room t (eqb-true n limit e))
     by-room t false e = rw (t, e) (by-verdict t (eqb-false n limit e) (breaking (v .accepted) (v .refused) (kind ++ (0 ∷ []))) refl)
 
     by-list : (b : Bool) → kindListed words n (kind ++ (0 ∷ [])) ≡ b
-        → Outcome C (λ m. Unbroken C limit m (offer .rows) (offer .words) grown) limit (offer .rows) (offer .words) (offer .answer)
+        → Outcome C (λ m. Unbroken C limit m (offer .slots) (offer .rows) (offer .words) grown) limit (offer .rows) (offer .words) (offer .answer)
     unfolding offering
     by-list true t = rw t (old-kind t)
     by-list false t = by-room t (eqb n limit) refl
 
     -- .. as the code offers it
-    pub offered : (r : Progress) (rows′ words′ : List ℕ) → Becomes offer r rows′ words′
-        → Outcome C (λ m. Unbroken C limit m rows′ words′ grown) limit rows′ words′ r
-    offered r rows′ words′ b = rw (b .answer, b .rows, b .words) (by-list (kindListed words n (kind ++ (0 ∷ []))) refl)
+    pub offered : (r : Progress) (slots′ rows′ words′ : List ℕ) → Becomes offer r slots′ rows′ words′
+        → Outcome C (λ m. Unbroken C limit m slots′ rows′ words′ grown) limit rows′ words′ r
+    offered r slots′ rows′ words′ b = rw (b .answer, b .slots, b .rows, b .words) (by-list (kindListed words n (kind ++ (0 ∷ []))) refl)

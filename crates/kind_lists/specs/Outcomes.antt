@@ -11,14 +11,16 @@ use Rattle.model.specs.Rounds.{kindAutomaton, ListedKind, kindAt, rounds}
 use Rattle.model.specs.Meaning.{NoneBreaks}
 use Rattle.model.proofs.Rounds.Growth.{Beginning}
 use Rattle.model.proofs.Rounds.Listing.{Ended}
+use Rattle.kind_slots.specs.Slots.{Entered}
 use Rattle.kind_lists.specs.Held.{Holds}
 use Rattle.kind_lists.specs.declared.Progress.{Progress}
 use Rattle.kind_lists.specs.declared.Progress.the-variants as progress
 
 module _ (C : Contract) where
-  -- the buffers hold a list of n rows, and no row breaks the contract
-  pub record Unbroken (limit n : ℕ) (rows words : List ℕ) (list : List (ListedKind C)) : Type 0 where
+  -- the buffers hold a list of n rows, the slots are its slots, and no row breaks the contract
+  pub record Unbroken (limit n : ℕ) (slots rows words : List ℕ) (list : List (ListedKind C)) : Type 0 where
     pub counted : n ≡ length list
+    pub entered : Entered words n slots
     pub holds : Holds C limit rows words list
     pub none : NoneBreaks C n list
 

@@ -14,7 +14,8 @@ use Rattle.model.proofs.Rounds.Places.{place}
 use Rattle.kind_words.specs.Blocks.{Words}
 use Rattle.breaking.specs.Verdicts.{VerdictsOf}
 use Rattle.breaking.specs.declared.Verdicts.{Verdicts}
-use Rattle.kind_lists.specs.Listing.{Room, paddedKind, Becomes, offering}
+use Rattle.kind_slots.specs.Stored.{paddedKind}
+use Rattle.kind_lists.specs.Listing.{Room, Becomes, offering}
 use Rattle.kind_lists.specs.Outcomes.{Unbroken, Outcome}
 use Rattle.kind_lists.specs.declared.Progress.{Progress}
 use Rattle.kind_lists.proofs.Stops.{kept-lengths}
@@ -35,13 +36,13 @@ padded-words words j kind e h k = rw e (go k)
     go (suc (suc (suc (suc (suc (suc k)))))) = pow-pos 64
 
 -- a list that is held leaves room
-pub room-of : {C : Contract} {limit n : ℕ} {rows words : List ℕ} (list : List (ListedKind C)) → Unbroken C limit n rows words list → Room limit n rows words
+pub room-of : {C : Contract} {limit n : ℕ} {slots rows words : List ℕ} (list : List (ListedKind C)) → Unbroken C limit n slots rows words list → Room limit n rows words
 room-of list u =
     let h = u .holds in
     let e = u .counted in
     record { few = h .few; used = omega (arith, h .fits); rowRoom = h .rowRoom; wordRoom = h .wordRoom }
 
-module _ {C : Contract} {r : Round} {s i j n : ℕ} {rows words : List ℕ} (at : At C r s i j n rows words) where
+module _ {C : Contract} {r : Round} {s i j n : ℕ} {slots rows words : List ℕ} (at : At C r s i j n slots rows words) where
   pub at-room : Room (r .limit) n rows words
   at-room = room-of (listAt C (at .height) s i j) (at .list)
 
@@ -63,22 +64,22 @@ module _ {C : Contract} {r : Round} {s i j n : ℕ} {rows words : List ℕ} (at 
       → s < C .transformation .symbols → i < r .stood → j < r .stood
       → (leftKind rightKind kind : List ℕ) → leftKind ≡ paddedKind words i → rightKind ≡ paddedKind words j
       → kind ≡ nextKind C s (take 5 leftKind) (take 5 rightKind) ++ (0 ∷ [])
-      → (p : Progress) (rows′ words′ : List ℕ) → Becomes (offering v (r .limit) n s i j kind rows words) p rows′ words′
-      → Outcome C (λ m. At C r s i (j + 1) m rows′ words′) (r .limit) rows′ words′ p
-  visit-pair {v = v} known verdicts hS hi hj leftKind rightKind kind el er ek p rows′ words′ b =
+      → (p : Progress) (slots′ rows′ words′ : List ℕ) → Becomes (offering v (r .limit) n s i j kind slots rows words) p slots′ rows′ words′
+      → Outcome C (λ m. At C r s i (j + 1) m slots′ rows′ words′) (r .limit) rows′ words′ p
+  visit-pair {v = v} known verdicts hS hi hj leftKind rightKind kind el er ek p slots′ rows′ words′ b =
       visit C at hS hi hj known v verdicts kind
       (ek ∙ ap₂ (λ (x : List ℕ) (y : List ℕ). nextKind C s (take 5 x) (take 5 y) ++ (0 ∷ [])) el er)
-      p rows′ words′ b
+      p slots′ rows′ words′ b
 
 -- the loops stand at the same right row under another name
-pub at-right : {C : Contract} {r : Round} {s i j n : ℕ} {rows words : List ℕ} (k : ℕ) → j ≡ k
-    → At C r s i j n rows words → At C r s i k n rows words
-at-right {C} {r} {s} {i} {n = n} {rows = rows} {words = words} k e at =
-    subst (λ (x : ℕ). At C r s i x n rows words) e at
+pub at-right : {C : Contract} {r : Round} {s i j n : ℕ} {slots rows words : List ℕ} (k : ℕ) → j ≡ k
+    → At C r s i j n slots rows words → At C r s i k n slots rows words
+at-right {C} {r} {s} {i} {n = n} {slots = slots} {rows = rows} {words = words} k e at =
+    subst (λ (x : ℕ). At C r s i x n slots rows words) e at
 
 -- buffers keep their lengths
-pub at-lengths : (C : Contract) (r : Round) (s i j : ℕ) (rows words : List ℕ) (p : Progress)
-    → Outcome C (λ n. At C r s i j n rows words) (r .limit) rows words p
+pub at-lengths : (C : Contract) (r : Round) (s i j : ℕ) (slots rows words : List ℕ) (p : Progress)
+    → Outcome C (λ n. At C r s i j n slots rows words) (r .limit) rows words p
     → (length rows ≡ 3 * r .limit) × (length words ≡ 5 * r .limit)
-at-lengths C r s i j rows words p o =
-    kept-lengths C (λ n. At C r s i j n rows words) (r .limit) rows words (λ n at. (at .list .holds .rowRoom, at .list .holds .wordRoom)) p o
+at-lengths C r s i j slots rows words p o =
+    kept-lengths C (λ n. At C r s i j n slots rows words) (r .limit) rows words (λ n at. (at .list .holds .rowRoom, at .list .holds .wordRoom)) p o

@@ -24,7 +24,8 @@ use Rattle.model.proofs.Rounds.Buffers.{FiveWords, beginning-five, length-next-
 use Rattle.breaking.specs.Verdicts.{VerdictsOf}
 use Rattle.breaking.specs.declared.Verdicts.{Verdicts}
 use Rattle.kind_lists.specs.Listing.{Becomes, offering}
-use Rattle.kind_lists.specs.Held.{kindIn, kind-held}
+use Rattle.kind_slots.specs.Stored.{kindIn}
+use Rattle.kind_lists.specs.Held.{kind-held}
 use Rattle.kind_lists.specs.Outcomes.{Unbroken, Outcome, outcome-map}
 use Rattle.kind_lists.specs.Offers.{offered}
 use Rattle.kind_lists.specs.declared.Progress.{Progress}
@@ -89,30 +90,30 @@ module _ (C : Contract) where
   listAt height s i j =
       roundTo (kindAutomaton C) (rounds (kindAutomaton C) height) (place (length (rounds (kindAutomaton C) height)) s i j)
 
-  -- the loops of a round stand before symbol s over rows i and j: the buffers hold the list so far, of n rows
-  pub record At (r : Round) (s i j n : ℕ) (rows words : List ℕ) : Type 0 where
+  -- the loops of a round stand before symbol s over rows i and j: the buffers hold the list so far, of n rows, and the slots are its slots
+  pub record At (r : Round) (s i j n : ℕ) (slots rows words : List ℕ) : Type 0 where
     pub height : ℕ
     pub standing : Standing height (r .before) (r .stood)
     pub symbol : 1 ≤ s
-    pub list : Unbroken C (r .limit) n rows words (listAt height s i j)
+    pub list : Unbroken C (r .limit) n slots rows words (listAt height s i j)
 
-  module _ {r : Round} {s i j n : ℕ} {rows words : List ℕ} (at : At r s i j n rows words) where
+  module _ {r : Round} {s i j n : ℕ} {slots rows words : List ℕ} (at : At r s i j n slots rows words) where
     abbrev stood : List (ListedKind C)
     stood = rounds (kindAutomaton C) (at .height)
 
     -- the loops stand elsewhere where the list is the same
-    moved : (s′ i′ j′ : ℕ) → 1 ≤ s′ → listAt (at .height) s′ i′ j′ ≡ listAt (at .height) s i j → At r s′ i′ j′ n rows words
+    moved : (s′ i′ j′ : ℕ) → 1 ≤ s′ → listAt (at .height) s′ i′ j′ ≡ listAt (at .height) s i j → At r s′ i′ j′ n slots rows words
     moved s′ i′ j′ h e =
         record {
           height = at .height;
           standing = at .standing;
           symbol = h;
-          list = subst (λ (list : List (ListedKind C)). Unbroken C (r .limit) n rows words list) (sym e) (at .list);
+          list = subst (λ (list : List (ListedKind C)). Unbroken C (r .limit) n slots rows words list) (sym e) (at .list);
         }
 
     -- right rows without their mark are passed over
     pub pass-rights : {rights : List ℕ} → RightsMarked (r .stood) rights → s < C .transformation .symbols → i < r .stood
-        → {k : ℕ} → NextMarked rights s j (r .stood) k → At r s i k n rows words
+        → {k : ℕ} → NextMarked rights s j (r .stood) k → At r s i k n slots rows words
     pass-rights marks hS hi {k} m =
         let counted = at .standing .counted in
         moved s i k (at .symbol)
@@ -123,7 +124,7 @@ module _ (C : Contract) where
 
     -- left rows without their mark are passed over whole
     pub pass-lefts : {lefts : List ℕ} → LeftsMarked (r .stood) lefts → j ≡ 0 → s < C .transformation .symbols
-        → {k : ℕ} → NextMarked lefts s i (r .stood) k → At r s k 0 n rows words
+        → {k : ℕ} → NextMarked lefts s i (r .stood) k → At r s k 0 n slots rows words
     pass-lefts marks z hS {k} m =
         let counted = at .standing .counted in
         moved s k 0 (at .symbol)
@@ -134,7 +135,7 @@ module _ (C : Contract) where
         same-left-listed (kindAutomaton C) (kinds-decided C) stood s x e (at .symbol) le (omega (arith, m .within)) (q (at .height) (omega (arith, m .within))) y hy)))
 
     -- pairs of rows that stood in the round before are passed over
-    pub pass-old : j ≡ 0 → s < C .transformation .symbols → i < r .before → At r s i (r .before) n rows words
+    pub pass-old : j ≡ 0 → s < C .transformation .symbols → i < r .before → At r s i (r .before) n slots rows words
     pass-old z hS hi =
         let counted = at .standing .counted in
         let earlier = at .standing .earlier in
@@ -145,28 +146,28 @@ module _ (C : Contract) where
 
     -- .. so that the right rows begin behind them
     pub begin-right : j ≡ 0 → s < C .transformation .symbols → (k : ℕ) → k ≡ choose (ltb i (r .before)) (r .before) 0
-        → At r s i k n rows words × (k ≤ r .stood)
+        → At r s i k n slots rows words × (k ≤ r .stood)
     begin-right z hS k e = go (ltb i (r .before)) refl
       where
         earlier : r .before ≤ r .stood
         earlier = at .standing .earlier
 
-        go : (b : Bool) → ltb i (r .before) ≡ b → At r s i k n rows words × (k ≤ r .stood)
+        go : (b : Bool) → ltb i (r .before) ≡ b → At r s i k n slots rows words × (k ≤ r .stood)
         go true q =
             let f : r .before ≡ k = sym (e ∙ rw q) in
-            (subst (λ (x : ℕ). At r s i x n rows words) f (pass-old z hS (ltb-true i (r .before) q)), omega arith)
+            (subst (λ (x : ℕ). At r s i x n slots rows words) f (pass-old z hS (ltb-true i (r .before) q)), omega arith)
         go false q =
             let f : 0 ≡ k = sym (e ∙ rw q) in
-            (subst (λ (x : ℕ). At r s i x n rows words) (z ∙ f) at, omega arith)
+            (subst (λ (x : ℕ). At r s i x n slots rows words) (z ∙ f) at, omega arith)
 
     -- after the last right row, and after the last left row
-    pub next-left : j ≡ r .stood → At r s (i + 1) 0 n rows words
+    pub next-left : j ≡ r .stood → At r s (i + 1) 0 n slots rows words
     next-left e =
         let q : j ≡ length stood = e ∙ at .standing .counted in
         moved s (i + 1) 0 (at .symbol)
         (ap (λ (c : ℕ). roundTo (kindAutomaton C) stood c) (rw (add-one i, q) (place-next-left (length stood) s i)))
 
-    pub next-symbol : i ≡ r .stood → j ≡ 0 → At r (s + 1) 0 0 n rows words
+    pub next-symbol : i ≡ r .stood → j ≡ 0 → At r (s + 1) 0 0 n slots rows words
     next-symbol e z =
         let q : i ≡ length stood = e ∙ at .standing .counted in
         let h = at .symbol in
@@ -208,9 +209,9 @@ module _ (C : Contract) where
 
       pub visit : Established C → (v : Verdicts) → VerdictsOf (C .input .marks) (C .output .marks) v
           → (kind : List ℕ) → kind ≡ nextKind C s (kindIn words i) (kindIn words j) ++ (0 ∷ [])
-          → (p : Progress) (rows′ words′ : List ℕ) → Becomes (offering v (r .limit) n s i j kind rows words) p rows′ words′
-          → Outcome C (λ m. At r s i (j + 1) m rows′ words′) (r .limit) rows′ words′ p
-      visit known v verdicts kind ek p rows′ words′ b =
+          → (p : Progress) (slots′ rows′ words′ : List ℕ) → Becomes (offering v (r .limit) n s i j kind slots rows words) p slots′ rows′ words′
+          → Outcome C (λ m. At r s i (j + 1) m slots′ rows′ words′) (r .limit) rows′ words′ p
+      visit known v verdicts kind ek p slots′ rows′ words′ b =
           let e : kind ≡ pairKind ++ (0 ∷ []) = ek ∙ rw (row-held i hi, row-held j hj) in
           outcome-map C (λ m u.
           record {
@@ -219,5 +220,5 @@ module _ (C : Contract) where
             symbol = at .symbol;
             list = rw after u;
           }) (r .limit) rows′ words′ p
-          (offered C known v verdicts list (at .list) words-five s i j pairKind (length-next-kind C s (kindAt C stood i) (kindAt C stood j)) (rw after at then-begins) p rows′ words′
+          (offered C known v verdicts list (at .list) words-five s i j pairKind (length-next-kind C s (kindAt C stood i) (kindAt C stood j)) (rw after at then-begins) p slots′ rows′ words′
           (rw e at b))

@@ -8,8 +8,8 @@ ghost use Rattle.prepared.specs.Parts.{contractIn, Ready};
 ghost use Rattle.round_pairs.specs.Steps.{RightsMarked};
 ghost use Rattle.round_pairs.specs.Stretches.{Stands, Comes, AllMarked};
 use kind_lists::Progress;
-use kind_lists::listing::kind_at;
 use kind_lists::listing::offer;
+use kind_slots::stored::kind_at;
 use kinds::kind_of;
 use prepared::Prepared;
 use row_marks::next_marked;
@@ -41,8 +41,8 @@ fn visit_pair(
     words: &mut [u64],
     room: &mut [u64; 256],
 ) -> Progress
-    requires { ⌜ Ready prepared (now table) × Stands prepared (now table) round place (now rows) (now words) × (place .symbol .0 < prepared .symbols) × (place .left < round .stood) × (place .right < round .stood) ⌝ }
-    ensures { λ r. ⌜ Comes prepared (now (table .entry)) round (place .symbol .0) (place .left) (place .right + 1) (now (rows .exit)) (now (words .exit)) r ⌝ }
+    requires { ⌜ Ready prepared (now table) × Stands prepared (now table) round place (now slots) (now rows) (now words) × (place .symbol .0 < prepared .symbols) × (place .left < round .stood) × (place .right < round .stood) ⌝ }
+    ensures { λ r. ⌜ Comes prepared (now (table .entry)) round (place .symbol .0) (place .left) (place .right + 1) (now (slots .exit)) (now (rows .exit)) (now (words .exit)) r ⌝ }
 {
     let symbol = place.symbol;
     let verdicts = prepared.verdicts;
@@ -75,8 +75,8 @@ fn right_rows(
     words: &mut [u64],
     room: &mut [u64; 256],
 ) -> Progress
-    requires { ⌜ Ready prepared (now table) × Stands prepared (now table) round place (now rows) (now words) × RightsMarked (contractIn prepared (now table)) (round .stood) (now rights) × (place .symbol .0 < prepared .symbols) × (place .left < round .stood) × (place .right ≤ round .stood) ⌝ }
-    ensures { λ r. ⌜ Comes prepared (now (table .entry)) round (place .symbol .0) (place .left + 1) 0 (now (rows .exit)) (now (words .exit)) r ⌝ }
+    requires { ⌜ Ready prepared (now table) × Stands prepared (now table) round place (now slots) (now rows) (now words) × RightsMarked (contractIn prepared (now table)) (round .stood) (now rights) × (place .symbol .0 < prepared .symbols) × (place .left < round .stood) × (place .right ≤ round .stood) ⌝ }
+    ensures { λ r. ⌜ Comes prepared (now (table .entry)) round (place .symbol .0) (place .left + 1) 0 (now (slots .exit)) (now (rows .exit)) (now (words .exit)) r ⌝ }
 {
     let symbol = place.symbol;
     let stood = round.stood;
@@ -122,8 +122,8 @@ pub fn left_rows(
     words: &mut [u64],
     room: &mut [u64; 256],
 ) -> Progress
-    requires { ⌜ Ready prepared (now table) × Stands prepared (now table) round place (now rows) (now words) × AllMarked prepared (now table) round (now lefts) (now rights) × (place .symbol .0 < prepared .symbols) × (place .left ≤ round .stood) × (place .right ≡ 0) ⌝ }
-    ensures { λ r. ⌜ Comes prepared (now (table .entry)) round (place .symbol .0 + 1) 0 0 (now (rows .exit)) (now (words .exit)) r ⌝ }
+    requires { ⌜ Ready prepared (now table) × Stands prepared (now table) round place (now slots) (now rows) (now words) × AllMarked prepared (now table) round (now lefts) (now rights) × (place .symbol .0 < prepared .symbols) × (place .left ≤ round .stood) × (place .right ≡ 0) ⌝ }
+    ensures { λ r. ⌜ Comes prepared (now (table .entry)) round (place .symbol .0 + 1) 0 0 (now (slots .exit)) (now (rows .exit)) (now (words .exit)) r ⌝ }
 {
     let symbol = place.symbol;
     let stood = round.stood;

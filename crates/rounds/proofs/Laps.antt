@@ -15,19 +15,19 @@ use Rattle.round_pairs.specs.declared.Round.{Round}
 use Rattle.round_pairs.proofs.Visits.{room-of}
 use Rattle.rounds.specs.Between.{Between}
 
-pub between-room : {C : Contract} {limit before stood : ℕ} {rows words : List ℕ} → Between C limit before stood rows words
+pub between-room : {C : Contract} {limit before stood : ℕ} {slots rows words : List ℕ} → Between C limit before stood slots rows words
     → Room limit stood rows words
 between-room {C} b = room-of (rounds (kindAutomaton C) (b .height)) (b .list)
 
-pub between-some : {C : Contract} {limit before stood : ℕ} {rows words : List ℕ} → Between C limit before stood rows words
+pub between-some : {C : Contract} {limit before stood : ℕ} {slots rows words : List ℕ} → Between C limit before stood slots rows words
     → 0 < stood
 between-some {C} b = omega (arith, b .standing .counted, rounds-not-empty (kindAutomaton C) (b .height))
 
 -- the loops stand before the same symbol under another name
-pub at-symbol : {C : Contract} {r : Round} {s i j n : ℕ} {rows words : List ℕ} (k : ℕ) → s ≡ k
-    → At C r s i j n rows words → At C r k i j n rows words
-at-symbol {C} {r} {i = i} {j = j} {n = n} {rows = rows} {words = words} k e at =
-    subst (λ (x : ℕ). At C r x i j n rows words) e at
+pub at-symbol : {C : Contract} {r : Round} {s i j n : ℕ} {slots rows words : List ℕ} (k : ℕ) → s ≡ k
+    → At C r s i j n slots rows words → At C r k i j n slots rows words
+at-symbol {C} {r} {i = i} {j = j} {n = n} {slots = slots} {rows = rows} {words = words} k e at =
+    subst (λ (x : ℕ). At C r x i j n slots rows words) e at
 
 -- a number below another, where that is the first of two tests
 pub first-below : (a b : ℕ) (u : Bool) → (ltb a b && u) ≡ true → a < b

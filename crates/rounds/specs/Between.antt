@@ -15,19 +15,19 @@ use Rattle.round_pairs.specs.Steps.{Standing, At, listAt}
 use Rattle.round_pairs.specs.declared.Round.{Round}
 
 module _ (C : Contract) where
-  -- the buffers hold the rows of some rounds, `stood` of them; those below `before` stood in the round before
-  pub record Between (limit before stood : ℕ) (rows words : List ℕ) : Type 0 where
+  -- the buffers hold the rows of some rounds, `stood` of them, and the slots are theirs; those below `before` stood in the round before
+  pub record Between (limit before stood : ℕ) (slots rows words : List ℕ) : Type 0 where
     pub height : ℕ
     pub standing : Standing C height before stood
-    pub list : Unbroken C limit stood rows words (rounds (kindAutomaton C) height)
+    pub list : Unbroken C limit stood slots rows words (rounds (kindAutomaton C) height)
     pub ended : before ≡ stood → Ended (kindAutomaton C) height
 
-  module _ {limit before stood : ℕ} {rows words : List ℕ} (b : Between limit before stood rows words) where
+  module _ {limit before stood : ℕ} {slots rows words : List ℕ} (b : Between limit before stood slots rows words) where
     abbrev listed : List (ListedKind C)
     listed = rounds (kindAutomaton C) (b .height)
 
     -- a round begins
-    pub round-starts : At C (record { limit = limit; before = before; stood = stood }) 1 0 0 stood rows words
+    pub round-starts : At C (record { limit = limit; before = before; stood = stood }) 1 0 0 stood slots rows words
     unfolding roundTo
     round-starts =
         let e : listAt C (b .height) 1 0 0 ≡ listed = ap (λ (c : ℕ). roundTo (kindAutomaton C) listed c) (place-first (length listed)) in
@@ -35,13 +35,13 @@ module _ (C : Contract) where
           height = b .height;
           standing = b .standing;
           symbol = omega arith;
-          list = subst (λ (list : List (ListedKind C)). Unbroken C limit stood rows words list) (sym e) (b .list);
+          list = subst (λ (list : List (ListedKind C)). Unbroken C limit stood slots rows words list) (sym e) (b .list);
         }
 
   -- a round ends
-  pub round-ends : {r : Round} {n : ℕ} {rows words : List ℕ} → At C r (C .transformation .symbols) 0 0 n rows words → Between (r .limit) (r .stood) n rows words
+  pub round-ends : {r : Round} {n : ℕ} {slots rows words : List ℕ} → At C r (C .transformation .symbols) 0 0 n slots rows words → Between (r .limit) (r .stood) n slots rows words
   unfolding rounds round
-  round-ends {r} {n} {rows} {words} at =
+  round-ends {r} {n} {slots} {rows} {words} at =
       record {
         height = suc (at .height);
         standing =
@@ -64,14 +64,14 @@ module _ (C : Contract) where
       whole : listAt C (at .height) (C .transformation .symbols) 0 0 ≡ round (kindAutomaton C) before-list
       whole = ap (λ (c : ℕ). roundTo (kindAutomaton C) before-list c) (place-last (length before-list) (C .transformation .symbols))
 
-      grown : Unbroken C (r .limit) n rows words (round (kindAutomaton C) before-list)
-      grown = subst (λ (list : List (ListedKind C)). Unbroken C (r .limit) n rows words list) whole (at .list)
+      grown : Unbroken C (r .limit) n slots rows words (round (kindAutomaton C) before-list)
+      grown = subst (λ (list : List (ListedKind C)). Unbroken C (r .limit) n slots rows words list) whole (at .list)
 
       grows : Begins (kindAutomaton C) before-list (round (kindAutomaton C) before-list)
       grows = round-begins (kindAutomaton C) before-list
 
   -- the list has ended
-  pub passed : {limit before stood : ℕ} {rows words : List ℕ} → Between limit before stood rows words → stood ≤ before
+  pub passed : {limit before stood : ℕ} {slots rows words : List ℕ} → Between limit before stood slots rows words → stood ≤ before
       → Passed C limit stood rows words
   passed b h =
       let earlier = b .standing .earlier in

@@ -7,11 +7,11 @@ use Rattle.kind_lists.specs.Outcomes.{Outcome, Passed}
 use Rattle.kind_lists.specs.declared.Progress.{Progress}
 use Rattle.rounds.specs.Between.{Between}
 
-module _ (p : Prepared) (table : List ℕ) (limit : ℕ) (rows words : List ℕ) where
+module _ (p : Prepared) (table : List ℕ) (limit : ℕ) where
   -- round 0 is listed, or the answer is known
-  abbrev pub Begun : Progress → Type 0
-  Begun = Outcome (contractIn p table) (λ n. Between (contractIn p table) limit 0 n rows words) limit rows words
+  abbrev pub Begun : (slots rows words : List ℕ) → Progress → Type 0
+  Begun slots rows words = Outcome (contractIn p table) (λ n. Between (contractIn p table) limit 0 n slots rows words) limit rows words
 
   -- the whole list, or the answer is known
-  abbrev pub Lists : Progress → Type 0
-  Lists = Outcome (contractIn p table) (λ n. Passed (contractIn p table) limit n rows words) limit rows words
+  abbrev pub Lists : (rows words : List ℕ) → Progress → Type 0
+  Lists rows words = Outcome (contractIn p table) (λ n. Passed (contractIn p table) limit n rows words) limit rows words

@@ -14,13 +14,14 @@ use Rattle.model.proofs.Laws.Established.{Established}
 use Rattle.model.proofs.Rounds.Growth.{agree-state, rounds-beginning}
 use Rattle.model.proofs.Rounds.Buffers.{beginning-five}
 use Rattle.classes.specs.Masks.{AgreeUnder, agree-self, class-agree, maskIn, Covered}
-use Rattle.kind_lists.specs.Held.{kindIn, kind-held}
+use Rattle.kind_slots.specs.Stored.{kindIn}
+use Rattle.kind_lists.specs.Held.{kind-held}
 use Rattle.row_marks.specs.Marks.{agrees-under, MarksOf, MarkedFrom}
 use Rattle.round_pairs.specs.Steps.{LeftSame, RightSame, LeftsMarked, RightsMarked}
 use Rattle.rounds.specs.Between.{Between}
 
 module _ (C : Contract) (known : Established C) (leftMasks rightMasks : List ℕ) (covered : Covered C leftMasks rightMasks)
-    {limit before stood : ℕ} {rows words : List ℕ} (b : Between C limit before stood rows words) where
+    {limit before stood : ℕ} {slots rows words : List ℕ} (b : Between C limit before stood slots rows words) where
   -- the kind of a row that stands, in any list that has it
   held : (k : ℕ) → k < stood → (height : ℕ) → k < length (rounds (kindAutomaton C) height) → kindIn words k ≡ kindAt C (rounds (kindAutomaton C) height) k
   held k h height inside =

@@ -13,6 +13,7 @@ use Rattle.model.proofs.Rounds.Growth.{rounds-beginning}
 use Rattle.model.proofs.Rounds.Buffers.{length-empty-kind}
 use Rattle.breaking.specs.Verdicts.{VerdictsOf}
 use Rattle.breaking.specs.declared.Verdicts.{Verdicts}
+use Rattle.kind_slots.specs.Slots.{Entered}
 use Rattle.kind_lists.specs.Listing.{Room, Becomes, offering}
 use Rattle.kind_lists.specs.Outcomes.{Unbroken, Outcome, outcome-map}
 use Rattle.kind_lists.specs.Offers.{offered}
@@ -20,11 +21,12 @@ use Rattle.kind_lists.specs.declared.Progress.{Progress}
 use Rattle.rounds.specs.Between.{Between}
 
 module _ (C : Contract) where
-  no-rows : {limit : ℕ} {rows words : List ℕ} → Room limit 0 rows words → Unbroken C limit 0 rows words []
+  no-rows : {limit : ℕ} {slots rows words : List ℕ} → Room limit 0 rows words → Entered words 0 slots → Unbroken C limit 0 slots rows words []
   unfolding rowNumbers kindNumbers
-  no-rows room =
+  no-rows room entered =
       record {
         counted = refl;
+        entered = entered;
         holds = record { few = room .few; fits = omega arith; rowRoom = room .rowRoom; wordRoom = room .wordRoom; rowsAre = refl; wordsAre = refl };
         none = record { keeps = λ i l h. absurd (omega arith) };
       }
@@ -38,7 +40,7 @@ module _ (C : Contract) where
   unfolding rounds
   one = refl
 
-  first-between : {limit : ℕ} {rows words : List ℕ} (n : ℕ) → Unbroken C limit n rows words (rounds (kindAutomaton C) 0) → Between C limit 0 n rows words
+  first-between : {limit : ℕ} {slots rows words : List ℕ} (n : ℕ) → Unbroken C limit n slots rows words (rounds (kindAutomaton C) 0) → Between C limit 0 n slots rows words
   first-between n u =
       let counted = u .counted in
       record {
@@ -48,11 +50,11 @@ module _ (C : Contract) where
         ended = λ z. absurd (omega (arith, one));
       }
 
-  pub begun : Established C → (v : Verdicts) → VerdictsOf (C .input .marks) (C .output .marks) v → {limit : ℕ} {rows words : List ℕ} → Room limit 0 rows words
-      → (kind : List ℕ) → kind ≡ emptyKind C ++ (0 ∷ [])
-      → (p : Progress) (rows′ words′ : List ℕ) → Becomes (offering v limit 0 0 0 0 kind rows words) p rows′ words′
-      → Outcome C (λ n. Between C limit 0 n rows′ words′) limit rows′ words′ p
-  begun known v verdicts {limit} {rows} {words} room kind ek p rows′ words′ b =
+  pub begun : Established C → (v : Verdicts) → VerdictsOf (C .input .marks) (C .output .marks) v → {limit : ℕ} {slots rows words : List ℕ} → Room limit 0 rows words
+      → Entered words 0 slots → (kind : List ℕ) → kind ≡ emptyKind C ++ (0 ∷ [])
+      → (p : Progress) (slots′ rows′ words′ : List ℕ) → Becomes (offering v limit 0 0 0 0 kind slots rows words) p slots′ rows′ words′
+      → Outcome C (λ n. Between C limit 0 n slots′ rows′ words′) limit rows′ words′ p
+  begun known v verdicts {limit} {slots} {rows} {words} room entered kind ek p slots′ rows′ words′ b =
       outcome-map C (λ n u. first-between n (rw round-0 at u)) limit rows′ words′ p
-      (offered C known v verdicts [] (no-rows room) (record { five = λ i l. absurd (omega arith) }) 0 0 0 (emptyKind C) (length-empty-kind C)
-      (rw round-0 (rounds-beginning (kindAutomaton C) 0)) p rows′ words′ (rw ek at b))
+      (offered C known v verdicts [] (no-rows room entered) (record { five = λ i l. absurd (omega arith) }) 0 0 0 (emptyKind C) (length-empty-kind C)
+      (rw round-0 (rounds-beginning (kindAutomaton C) 0)) p slots′ rows′ words′ (rw ek at b))

@@ -3,6 +3,7 @@
 ghost use Prim.Native.Nat.{_≤_};
 ghost use Rattle.classes.specs.Masks.{Covered};
 ghost use Rattle.prepared.specs.Parts.{contractIn, Ready};
+ghost use Rattle.kind_slots.specs.Slots.{Entered};
 ghost use Rattle.kind_lists.specs.Listing.{Room};
 ghost use Rattle.round_pairs.specs.Stretches.{Starts, Comes, AllMarked};
 ghost use Rattle.rounds.specs.Between.{Between};
@@ -31,8 +32,8 @@ fn one_round(
     words: &mut [u64],
     room: &mut [u64; 256],
 ) -> Progress
-    requires { ⌜ Ready prepared (now table) × Starts prepared (now table) round (now rows) (now words) × AllMarked prepared (now table) round (now lefts) (now rights) ⌝ }
-    ensures { λ r. ⌜ Comes prepared (now (table .entry)) round (prepared .symbols) 0 0 (now (rows .exit)) (now (words .exit)) r ⌝ }
+    requires { ⌜ Ready prepared (now table) × Starts prepared (now table) round (now slots) (now rows) (now words) × AllMarked prepared (now table) round (now lefts) (now rights) ⌝ }
+    ensures { λ r. ⌜ Comes prepared (now (table .entry)) round (prepared .symbols) 0 0 (now (slots .exit)) (now (rows .exit)) (now (words .exit)) r ⌝ }
 {
     let symbols = prepared.symbols;
     let stood = round.stood;
@@ -80,7 +81,7 @@ fn all_rounds(
     words: &mut [u64],
     room: &mut [u64; 256],
 ) -> Progress
-    requires { ⌜ Ready prepared (now table) × Covered (contractIn prepared (now table)) (now «left_masks») (now «right_masks») × Between (contractIn prepared (now table)) limit 0 count (now rows) (now words) ⌝ }
+    requires { ⌜ Ready prepared (now table) × Covered (contractIn prepared (now table)) (now «left_masks») (now «right_masks») × Between (contractIn prepared (now table)) limit 0 count (now slots) (now rows) (now words) ⌝ }
     ensures { λ r. ⌜ Lists prepared (now (table .entry)) limit (now (rows .exit)) (now (words .exit)) r ⌝ }
 {
     let mut lefts = [0u16; 512];
@@ -139,8 +140,8 @@ fn first_round(
     words: &mut [u64],
     room: &mut [u64; 256],
 ) -> Progress
-    requires { ⌜ Ready prepared (now table) × Room limit 0 (now rows) (now words) ⌝ }
-    ensures { λ r. ⌜ Begun prepared (now (table .entry)) limit (now (rows .exit)) (now (words .exit)) r ⌝ }
+    requires { ⌜ Ready prepared (now table) × Room limit 0 (now rows) (now words) × Entered (now words) 0 (now slots) ⌝ }
+    ensures { λ r. ⌜ Begun prepared (now (table .entry)) limit (now (slots .exit)) (now (rows .exit)) (now (words .exit)) r ⌝ }
 {
     let kind = empty_of(prepared, table, room);
     let verdicts = prepared.verdicts;

@@ -13,7 +13,7 @@ use lib.Seq.{getD-set-same, getD-set-other}
 use Rattle.foundation.specs.Tests.{choose, _or_, or-left, or-right, test-false, false-test}
 use Rattle.foundation.specs.Words.{bit}
 use Rattle.foundation.specs.Bits.{bit-or, bit-shl, bit-ones}
-use Rattle.kind_lists.specs.Listing.{paddedKind, sameWords}
+use Rattle.kind_slots.specs.Stored.{paddedKind, sameWords}
 use Rattle.row_marks.specs.Marks.{shown, SomeEarlier, MarksOf, MarkedFrom}
 
 pub and-hit : {t m r a : Bool} → m ≡ t → m ≡ true → r ≡ a → r ≡ (t && a)

@@ -9,8 +9,8 @@ use lib.Bits.{bitAnd}
 use lib.ListN.{length, getD}
 use Rattle.foundation.specs.Words.{bit}
 use Rattle.classes.specs.Masks.{AgreeUnder, maskIn}
-use Rattle.kind_lists.specs.Listing.{paddedKind, sameWords}
-use Rattle.kind_lists.specs.Held.{kindIn, all-five}
+use Rattle.kind_slots.specs.Stored.{kindIn, paddedKind, sameWords}
+use Rattle.kind_slots.proofs.Same.{all-five}
 
 -- what a mask shows of a kind
 abbrev pub shown : (mask kind : List ℕ) → List ℕ

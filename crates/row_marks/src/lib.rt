@@ -6,10 +6,10 @@ ghost use Prim.Native.Nat.{_+_, _*_, _^_, _<_, _≤_};
 ghost use lib.ListN.{getD, length};
 ghost use Rattle.foundation.specs.Tests.{choose};
 ghost use Rattle.foundation.specs.Words.{bit};
-ghost use Rattle.kind_lists.specs.Listing.{paddedKind, sameWords};
+ghost use Rattle.kind_slots.specs.Stored.{paddedKind, sameWords};
 ghost use Rattle.row_marks.specs.Marks.{shown, SomeEarlier, MarksOf, MarkedFrom, NextMarked};
-use kind_lists::listing::kind_at;
-use kind_lists::listing::same_words;
+use kind_slots::stored::kind_at;
+use kind_slots::stored::same_words;
 use tables::Symbol;
 
 // The symbol of a number.

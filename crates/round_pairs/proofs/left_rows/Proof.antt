@@ -13,7 +13,7 @@ use Rattle.round_pairs.proofs.left_rows.Tie as tie
 
 abbrev Inv-loop : tie.InvT-loop
 Inv-loop prepared table round lefts rights slots₀ rows₀ words₀ room₀ symbol stood total₀ left₀ slots rows words room total left =
-    At (contractIn prepared table) round (symbol .0) left 0 total rows words × (left ≤ round .stood)
+    At (contractIn prepared table) round (symbol .0) left 0 total slots rows words × (left ≤ round .stood)
 
 abbrev μ-loop : tie.MeasureT-loop
 μ-loop prepared table round lefts rights slots₀ rows₀ words₀ room₀ symbol stood total₀ left₀ slots rows words room total left = round .stood - left
@@ -41,10 +41,10 @@ enum-known-step : tie.Need-enum-known-step Inv-loop μ-loop
 enum-known-step c = c .match .keys1
 
 same-length : tie.Need-same-length Inv-loop μ-loop
-same-length c = at-lengths _ _ _ _ _ _ _ (c .before .before .before .before .before .right-rows .result) (c .before .before .before .before .before .right-rows .ensures) .0 ∙ sym (at-room (c .before .before .before .before .before .before .before .before .before .before .before .before .before .before .before .before .before .before .pre .1) .rowRoom)
+same-length c = at-lengths _ _ _ _ _ _ _ _ (c .before .before .before .before .before .right-rows .result) (c .before .before .before .before .before .right-rows .ensures) .0 ∙ sym (at-room (c .before .before .before .before .before .before .before .before .before .before .before .before .before .before .before .before .before .before .pre .1) .rowRoom)
 
 same-length-2 : tie.Need-same-length-2 Inv-loop μ-loop
-same-length-2 c = at-lengths _ _ _ _ _ _ _ (c .before .before .before .before .before .right-rows .result) (c .before .before .before .before .before .right-rows .ensures) .1 ∙ sym (at-room (c .before .before .before .before .before .before .before .before .before .before .before .before .before .before .before .before .before .before .pre .1) .wordRoom)
+same-length-2 c = at-lengths _ _ _ _ _ _ _ _ (c .before .before .before .before .before .right-rows .result) (c .before .before .before .before .before .right-rows .ensures) .1 ∙ sym (at-room (c .before .before .before .before .before .before .before .before .before .before .before .before .before .before .before .before .before .before .pre .1) .wordRoom)
 
 returns : tie.Need-returns Inv-loop μ-loop
 returns c = ends _ _ _ _ _ _ (c .before .before .before .before .before .right-rows .result) (c .match .keys2) (c .before .before .before .before .before .right-rows .ensures)

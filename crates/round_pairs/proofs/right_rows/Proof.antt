@@ -11,7 +11,7 @@ use Rattle.round_pairs.proofs.right_rows.Tie as tie
 
 abbrev Inv-loop : tie.InvT-loop
 Inv-loop prepared table round place rights slots₀ rows₀ words₀ room₀ symbol stood total₀ right₀ slots rows words room total right =
-    At (contractIn prepared table) round (place .symbol .0) (place .left) right total rows words × (right ≤ round .stood)
+    At (contractIn prepared table) round (place .symbol .0) (place .left) right total slots rows words × (right ≤ round .stood)
 
 abbrev μ-loop : tie.MeasureT-loop
 μ-loop prepared table round place rights slots₀ rows₀ words₀ room₀ symbol stood total₀ right₀ slots rows words room total right = round .stood - right
@@ -28,10 +28,10 @@ enum-known-step : tie.Need-enum-known-step Inv-loop μ-loop
 enum-known-step c = c .match .keys1
 
 same-length : tie.Need-same-length Inv-loop μ-loop
-same-length c = at-lengths _ _ _ _ _ _ _ (c .before .before .before .before .before .visit-pair .result) (c .before .before .before .before .before .visit-pair .ensures) .0 ∙ sym (at-room (c .before .before .before .before .before .before .before .before .before .before .before .before .before .before .before .before .pre .1) .rowRoom)
+same-length c = at-lengths _ _ _ _ _ _ _ _ (c .before .before .before .before .before .visit-pair .result) (c .before .before .before .before .before .visit-pair .ensures) .0 ∙ sym (at-room (c .before .before .before .before .before .before .before .before .before .before .before .before .before .before .before .before .pre .1) .rowRoom)
 
 same-length-2 : tie.Need-same-length-2 Inv-loop μ-loop
-same-length-2 c = at-lengths _ _ _ _ _ _ _ (c .before .before .before .before .before .visit-pair .result) (c .before .before .before .before .before .visit-pair .ensures) .1 ∙ sym (at-room (c .before .before .before .before .before .before .before .before .before .before .before .before .before .before .before .before .pre .1) .wordRoom)
+same-length-2 c = at-lengths _ _ _ _ _ _ _ _ (c .before .before .before .before .before .visit-pair .result) (c .before .before .before .before .before .visit-pair .ensures) .1 ∙ sym (at-room (c .before .before .before .before .before .before .before .before .before .before .before .before .before .before .before .before .pre .1) .wordRoom)
 
 returns : tie.Need-returns Inv-loop μ-loop
 returns c = ends _ _ _ _ _ _ (c .before .before .before .before .before .visit-pair .result) (c .match .keys2) (c .before .before .before .before .before .visit-pair .ensures)

@@ -25,7 +25,7 @@ kind-of-requires c κs =
 offer-requires : tie.Need-offer-requires
 offer-requires c κs =
     let pre = c .before .before .before .before .before .before .before .before .before .before .before .before .before .before .before .before .before .pre in
-    (at-room (pre .1), omega (arith, row-room (pre .1) _ (pre .3) .1), omega (arith, row-room (pre .1) _ (pre .4) .1))
+    (at-room (pre .1), omega (arith, row-room (pre .1) _ (pre .3) .1), omega (arith, row-room (pre .1) _ (pre .4) .1), pre .1 .list .entered)
 
 same-length : tie.Need-same-length
 same-length c = search needs
@@ -37,7 +37,7 @@ returns : tie.Need-returns
 returns c =
     let pre = c .before .before .before .before .before .before .before .before .before .before .before .before .before .before .before .before .before .before .before .before .before .before .pre in
     visit-pair (pre .1) (pre .0 .prepared .established) (pre .0 .verdicts) (pre .2) (pre .3) (pre .4) (c .before .before .before .before .before .before .before .before .before .before .before .before .before .before .before .kind-at .result) (c .before .before .before .before .before .before .before .before .before .before .before .before .before .kind-at2 .result) (c .before .before .before .before .before .before .before .before .before .kind-of .result)
-    (c .before .before .before .before .before .before .before .before .before .before .before .before .before .before .before .kind-at .ensures) (c .before .before .before .before .before .before .before .before .before .before .before .before .before .kind-at2 .ensures) (c .before .before .before .before .before .before .before .before .before .kind-of .ensures) (c .before .before .before .before .offer .result) _ _ (c .before .before .before .before .offer .ensures)
+    (c .before .before .before .before .before .before .before .before .before .before .before .before .before .before .before .kind-at .ensures) (c .before .before .before .before .before .before .before .before .before .before .before .before .before .kind-at2 .ensures) (c .before .before .before .before .before .before .before .before .before .kind-of .ensures) (c .before .before .before .before .offer .result) _ _ _ (c .before .before .before .before .offer .ensures)
 
 pub visit-pair-spec : {M : Type 1} → statement M
 visit-pair-spec =

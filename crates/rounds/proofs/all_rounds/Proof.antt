@@ -1,4 +1,4 @@
--- Invariant: the buffers hold the rows of some rounds, and those of the last but one have their marks. Measure: how many rows
+-- Invariant: the buffers hold the rows of some rounds and the slots are theirs, and those of the last but one have their marks. Measure: how many rows
 -- there may be above those.
 use mathlib.Core.Path.{refl, sym, _∙_}
 use Prim.Native.Nat.{_-_}
@@ -15,7 +15,7 @@ use Rattle.rounds.proofs.all_rounds.Tie as tie
 
 abbrev Inv-loop : tie.InvT-loop
 Inv-loop prepared table left-masks right-masks limit count slots₀ rows₀ words₀ room₀ lefts₀ rights₀ before₀ stood₀ slots rows words room lefts rights before stood =
-    Between (contractIn prepared table) limit before stood rows words × LeftsMarked (contractIn prepared table) before lefts × RightsMarked (contractIn prepared table) before rights
+    Between (contractIn prepared table) limit before stood slots rows words × LeftsMarked (contractIn prepared table) before lefts × RightsMarked (contractIn prepared table) before rights
 
 abbrev μ-loop : tie.MeasureT-loop
 μ-loop prepared table left-masks right-masks limit count slots₀ rows₀ words₀ room₀ lefts₀ rights₀ before₀ stood₀ slots rows words room lefts rights before stood = limit - before
@@ -44,10 +44,10 @@ enum-known-step : tie.Need-enum-known-step Inv-loop μ-loop
 enum-known-step c = c .match .keys1
 
 same-length : tie.Need-same-length Inv-loop μ-loop
-same-length c = at-lengths _ _ _ _ _ _ _ (c .before .before .before .before .before .one-round .result) (c .before .before .before .before .before .one-round .ensures) .0 ∙ sym (between-room (c .before .before .before .before .before .before .before .before .before .before .before .before .before .before .before .before .before .before .before .before .before .before .before .pre .2) .rowRoom)
+same-length c = at-lengths _ _ _ _ _ _ _ _ (c .before .before .before .before .before .one-round .result) (c .before .before .before .before .before .one-round .ensures) .0 ∙ sym (between-room (c .before .before .before .before .before .before .before .before .before .before .before .before .before .before .before .before .before .before .before .before .before .before .before .pre .2) .rowRoom)
 
 same-length-2 : tie.Need-same-length-2 Inv-loop μ-loop
-same-length-2 c = at-lengths _ _ _ _ _ _ _ (c .before .before .before .before .before .one-round .result) (c .before .before .before .before .before .one-round .ensures) .1 ∙ sym (between-room (c .before .before .before .before .before .before .before .before .before .before .before .before .before .before .before .before .before .before .before .before .before .before .before .pre .2) .wordRoom)
+same-length-2 c = at-lengths _ _ _ _ _ _ _ _ (c .before .before .before .before .before .one-round .result) (c .before .before .before .before .before .one-round .ensures) .1 ∙ sym (between-room (c .before .before .before .before .before .before .before .before .before .before .before .before .before .before .before .before .before .before .before .before .before .before .before .pre .2) .wordRoom)
 
 returns : tie.Need-returns Inv-loop μ-loop
 returns c = ends _ _ _ _ _ _ (c .before .before .before .before .before .one-round .result) (c .match .keys2) (c .before .before .before .before .before .one-round .ensures)

@@ -19,7 +19,7 @@ same-length-2 c = search needs
 returns : tie.Need-returns
 returns c =
     let ready = c .before .before .before .before .before .before .before .before .before .before .before .before .before .before .before .pre .0 in
-    begun _ (ready .prepared .established) _ (ready .verdicts) (c .before .before .before .before .before .before .before .before .before .before .before .before .before .before .before .pre .1) _ (c .before .before .before .before .before .before .before .before .before .before .empty-of .ensures) (c .before .before .before .before .offer .result) _ _ (c .before .before .before .before .offer .ensures)
+    begun _ (ready .prepared .established) _ (ready .verdicts) (c .before .before .before .before .before .before .before .before .before .before .before .before .before .before .before .pre .1) (c .before .before .before .before .before .before .before .before .before .before .before .before .before .before .before .pre .2) _ (c .before .before .before .before .before .before .before .before .before .before .empty-of .ensures) (c .before .before .before .before .offer .result) _ _ _ (c .before .before .before .before .offer .ensures)
 
 pub first-round-spec : {M : Type 1} → statement M
 first-round-spec =

@@ -1,11 +1,12 @@
 -- Where round 0 tells the answer, it is the answer; else the rounds go on from it.
+use Rattle.kind_slots.proofs.Finding.{none-entered}
 use Rattle.kind_lists.proofs.Stops.{ends, goes}
 use borrow.Author.Needs.{needs}
 use Rattle.rounds.proofs.list_kinds.Statement.{statement}
 use Rattle.rounds.proofs.list_kinds.Tie as tie
 
 first-round-requires : tie.Need-first-round-requires
-first-round-requires c κs = search needs
+first-round-requires c κs = (c .before .before .before .before .before .before .before .pre .0, c .before .before .before .before .before .before .before .pre .2, none-entered _)
 
 enum-known-step : tie.Need-enum-known-step
 enum-known-step c = search needs

@@ -6,7 +6,7 @@ use Prim.Native.Nat.{ℕ, _-_, _≤_, _<_}
 use native.Mathlib.Omega.{arith}
 use denote.Ref.{now}
 use Rattle.foundation.specs.Words.{bit}
-use Rattle.kind_lists.specs.Listing.{paddedKind}
+use Rattle.kind_slots.specs.Stored.{paddedKind}
 use Rattle.row_marks.specs.Marks.{SomeEarlier}
 use Rattle.row_marks.proofs.MarkBits.{marks-more}
 use Rattle.row_marks.proofs.first_symbols.Statement.{statement}

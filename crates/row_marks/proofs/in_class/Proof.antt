@@ -2,7 +2,7 @@
 use mathlib.Core.Path.{ap, _∙_}
 use mathlib.Core.List.{List}
 use Prim.Native.Nat.{ℕ}
-use Rattle.kind_lists.specs.Listing.{sameWords}
+use Rattle.kind_slots.specs.Stored.{sameWords}
 use Rattle.row_marks.specs.Marks.{shown}
 use Rattle.row_marks.proofs.MarkBits.{and-hit, and-miss}
 use borrow.Author.Needs.{needs}

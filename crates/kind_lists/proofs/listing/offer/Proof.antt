@@ -1,20 +1,25 @@
--- By the arms: what each answer comes to is said by the cases of `offering`.
+-- The slots tell whether the kind is listed; by the arms, what each answer comes to is said by the cases of `offering`.
 use mathlib.Core.Bool.{true, false}
+use native.Mathlib.Omega.{arith}
+use Rattle.kind_slots.proofs.Finding.{searchable, slot-few}
 use Rattle.kind_lists.proofs.Offers.{offer-old, offer-full, offer-stored}
 use borrow.Author.Needs.{needs}
 use Rattle.kind_lists.proofs.listing.offer.Statement.{statement}
 use Rattle.kind_lists.proofs.listing.offer.Tie as tie
 
-listed-requires : tie.Need-listed-requires
-listed-requires c κs = search needs
+find-slot-requires : tie.Need-find-slot-requires
+find-slot-requires c κs = searchable _ _ _ (c .before .before .before .before .pre .3) (omega (arith, c .before .before .before .before .pre .0 .used, c .before .before .before .before .pre .0 .wordRoom))
+
+row-in-requires : tie.Need-row-in-requires
+row-in-requires c κs = omega (arith, c .before .find-slot .ensures, slot-few (c .before .before .before .before .before .before .args .words .now) (c .before .before .before .before .before .before .args .slots .now) (c .before .before .before .before .before .before .args .kind .now))
 
 same-length : tie.Need-same-length
 same-length c = search needs
 
 returns : tie.Need-returns
 returns c =
-    let a = c .before .before .before .before .before .before .args in
-    offer-old (a .verdicts) (a .limit) (a .count) (a .symbol .0) (a .left) (a .right) (a .kind .now) (a .rows .now) (a .words .now) (c .before .listed .ensures) (c .if1 .taken)
+    let a = c .before .before .before .before .before .before .before .before .args in
+    offer-old (a .verdicts) (a .limit) (a .count) (a .symbol .0) (a .left) (a .right) (a .kind .now) (a .slots .now) (a .rows .now) (a .words .now) (c .before .before .before .before .before .before .before .before .pre .3) (c .before .before .before .find-slot .ensures) (c .before .row-in .ensures) (c .if1 .taken)
 
 breaks-requires : tie.Need-breaks-requires
 breaks-requires c κs = search needs
@@ -24,14 +29,17 @@ same-length-2 c = search needs
 
 returns-2 : tie.Need-returns-2
 returns-2 c =
-    let a = c .before .before .before .before .before .before .before .before .args in
-    offer-full (a .verdicts) (a .limit) (a .count) (a .symbol .0) (a .left) (a .right) (a .kind .now) (a .rows .now) (a .words .now) (c .before .before .before .listed .ensures) (c .before .before .if1 .left) (c .if2 .taken)
+    let a = c .before .before .before .before .before .before .before .before .before .before .args in
+    offer-full (a .verdicts) (a .limit) (a .count) (a .symbol .0) (a .left) (a .right) (a .kind .now) (a .slots .now) (a .rows .now) (a .words .now) (c .before .before .before .before .before .before .before .before .before .before .pre .3) (c .before .before .before .before .before .find-slot .ensures) (c .before .before .before .row-in .ensures) (c .before .before .if1 .left) (c .if2 .taken)
 
 store-row-requires : tie.Need-store-row-requires
 store-row-requires c κs = search needs
 
 store-kind-requires : tie.Need-store-kind-requires
 store-kind-requires c κs = search needs
+
+enter-row-requires : tie.Need-enter-row-requires
+enter-row-requires c κs = (omega (arith, c .before .before .before .before .before .before .before .before .before .before .before .before .before .before .find-slot .ensures, slot-few (c .before .before .before .before .before .before .before .before .before .before .before .before .before .before .before .before .before .before .before .args .words .now) (c .before .before .before .before .before .before .before .before .before .before .before .before .before .before .before .before .before .before .before .args .slots .now) (c .before .before .before .before .before .before .before .before .before .before .before .before .before .before .before .before .before .before .before .args .kind .now)), omega (arith, c .before .before .before .before .before .before .before .before .before .before .before .before .before .before .before .before .before .before .before .pre .0 .used, c .before .before .before .before .before .before .before .before .before .before .before .before .before .before .before .before .before .before .before .pre .0 .few))
 
 same-length-3 : tie.Need-same-length-3
 same-length-3 c = search needs
@@ -41,12 +49,11 @@ same-length-4 c = search needs
 
 returns-3 : tie.Need-returns-3
 returns-3 c =
-    let a = c .before .before .before .before .before .before .before .before .before .before .before .before .before .before .before .before .before .args in
-    offer-stored (a .verdicts) (a .limit) (a .count) (a .symbol .0) (a .left) (a .right) (a .kind .now) (a .rows .now) (a .words .now) (c .before .before .before .before .before .before .before .before .before .before .before .before .listed .ensures) (c .before .before .before .before .before .before .before .before .before .before .before .if1 .left)
-    (c .before .before .before .before .before .before .before .before .before .if2 .left) (c .before .before .before .before .before .before .before .before .before .before .breaks .ensures) true (c .if3 .taken) (c .before .before .before .before .before .before .before .store-row .ensures) (c .before .before .before .store-kind .ensures)
+    let a = c .before .before .before .before .before .before .before .before .before .before .before .before .before .before .before .before .before .before .before .before .before .args in
+    offer-stored (a .verdicts) (a .limit) (a .count) (a .symbol .0) (a .left) (a .right) (a .kind .now) (a .slots .now) (a .rows .now) (a .words .now) (c .before .before .before .before .before .before .before .before .before .before .before .before .before .before .before .before .before .before .before .before .before .pre .3) (c .before .before .before .before .before .before .before .before .before .before .before .before .before .before .before .before .find-slot .ensures) (c .before .before .before .before .before .before .before .before .before .before .before .before .before .before .row-in .ensures) (c .before .before .before .before .before .before .before .before .before .before .before .before .before .if1 .left) (c .before .before .before .before .before .before .before .before .before .before .before .if2 .left) (c .before .before .before .before .before .before .before .before .before .before .before .before .breaks .ensures) true (c .if3 .taken) (c .before .enter-row .ensures) (c .before .before .before .before .before .before .before .before .before .store-row .ensures) (c .before .before .before .before .before .store-kind .ensures)
 
-add-t22 : tie.Need-add-t22
-add-t22 c = search needs
+add-t16 : tie.Need-add-t16
+add-t16 c = search needs
 
 same-length-5 : tie.Need-same-length-5
 same-length-5 c = search needs
@@ -56,15 +63,15 @@ same-length-6 c = search needs
 
 returns-4 : tie.Need-returns-4
 returns-4 c =
-    let a = c .before .before .before .before .before .before .before .before .before .before .before .before .before .before .before .before .before .args in
-    offer-stored (a .verdicts) (a .limit) (a .count) (a .symbol .0) (a .left) (a .right) (a .kind .now) (a .rows .now) (a .words .now) (c .before .before .before .before .before .before .before .before .before .before .before .before .listed .ensures) (c .before .before .before .before .before .before .before .before .before .before .before .if1 .left)
-    (c .before .before .before .before .before .before .before .before .before .if2 .left) (c .before .before .before .before .before .before .before .before .before .before .breaks .ensures) false (c .if3 .left) (c .before .before .before .before .before .before .before .store-row .ensures) (c .before .before .before .store-kind .ensures)
+    let a = c .before .before .before .before .before .before .before .before .before .before .before .before .before .before .before .before .before .before .before .before .before .args in
+    offer-stored (a .verdicts) (a .limit) (a .count) (a .symbol .0) (a .left) (a .right) (a .kind .now) (a .slots .now) (a .rows .now) (a .words .now) (c .before .before .before .before .before .before .before .before .before .before .before .before .before .before .before .before .before .before .before .before .before .pre .3) (c .before .before .before .before .before .before .before .before .before .before .before .before .before .before .before .before .find-slot .ensures) (c .before .before .before .before .before .before .before .before .before .before .before .before .before .before .row-in .ensures) (c .before .before .before .before .before .before .before .before .before .before .before .before .before .if1 .left) (c .before .before .before .before .before .before .before .before .before .before .before .if2 .left) (c .before .before .before .before .before .before .before .before .before .before .before .before .breaks .ensures) false (c .if3 .left) (c .before .enter-row .ensures) (c .before .before .before .before .before .before .before .before .before .store-row .ensures) (c .before .before .before .before .before .store-kind .ensures)
 
 pub offer-spec : {M : Type 1} → statement M
 offer-spec =
     tie.close
     (tie.spec
-    listed-requires
+    find-slot-requires
+    row-in-requires
     same-length
     returns
     breaks-requires
@@ -72,10 +79,11 @@ offer-spec =
     returns-2
     store-row-requires
     store-kind-requires
+    enter-row-requires
     same-length-3
     same-length-4
     returns-3
-    add-t22
+    add-t16
     same-length-5
     same-length-6
     returns-4)

@@ -2,10 +2,10 @@
 use mathlib.Core.Path.{ap, _∙_}
 use mathlib.Core.List.{List}
 use Prim.Native.Nat.{ℕ}
-use Rattle.kind_lists.specs.Listing.{sameWords}
+use Rattle.kind_slots.specs.Stored.{sameWords}
 use borrow.Author.Needs.{needs}
-use Rattle.kind_lists.proofs.listing.same_kind.Statement.{statement}
-use Rattle.kind_lists.proofs.listing.same_kind.Tie as tie
+use Rattle.kind_slots.proofs.stored.same_kind.Statement.{statement}
+use Rattle.kind_slots.proofs.stored.same_kind.Tie as tie
 
 kind-at-requires : tie.Need-kind-at-requires
 kind-at-requires c κs = search needs

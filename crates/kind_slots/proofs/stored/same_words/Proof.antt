@@ -1,8 +1,8 @@
 -- The test is the definition, word by word.
-use Rattle.kind_lists.specs.Listing.{sameWords}
+use Rattle.kind_slots.specs.Stored.{sameWords}
 use borrow.Author.Needs.{needs}
-use Rattle.kind_lists.proofs.listing.same_words.Statement.{statement}
-use Rattle.kind_lists.proofs.listing.same_words.Tie as tie
+use Rattle.kind_slots.proofs.stored.same_words.Statement.{statement}
+use Rattle.kind_slots.proofs.stored.same_words.Tie as tie
 
 element-copy-out-result : tie.Need-element-copy-out-result
 element-copy-out-result c = search needs

@@ -2,8 +2,8 @@
 use native.Mathlib.Omega.{arith}
 use lib.ListN.{length-set}
 use borrow.Author.Needs.{needs}
-use Rattle.kind_lists.proofs.listing.store_kind.Statement.{statement}
-use Rattle.kind_lists.proofs.listing.store_kind.Tie as tie
+use Rattle.kind_slots.proofs.stored.store_kind.Statement.{statement}
+use Rattle.kind_slots.proofs.stored.store_kind.Tie as tie
 
 mul-at : tie.Need-mul-at
 mul-at c = search needs
