@@ -33,7 +33,7 @@ pub fn offer(
     left: usize,
     right: usize,
     kind: &[u64; 6],
-    slots: &mut [u16; 1024],
+    slots: &mut [u32; 1024],
     rows: &mut [u16],
     words: &mut [u64],
 ) -> Progress

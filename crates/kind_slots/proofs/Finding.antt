@@ -40,7 +40,7 @@ module _ (words : List ℕ) (n : ℕ) (slots : List ℕ) (h : Entered words n sl
 
   -- such slots can be searched
   pub searchable : 5 * n ≤ length words → Searchable words slots
-  searchable room = record { long = held .long; few = omega (arith, held .counted, h .few); stands = stands }
+  searchable room = record { half = record { long = held .long; few = omega (arith, held .counted, h .few) }; stands = stands }
     where
       stands : (slot : ℕ) → isFree slots slot ≡ false → Standing words (getD slots slot 0)
       stands slot e =
@@ -50,7 +50,7 @@ module _ (words : List ℕ) (n : ℕ) (slots : List ℕ) (h : Entered words n sl
           record {
             inside = omega (arith, name .inside);
             printed =
-                ap (λ (x : ℕ). x / 512) (name .is)
+                ap (λ (x : ℕ). x / 1024) (name .is)
                 ∙ entry-print (paddedKind words (name .row)) (name .row) small
                 ∙ ap (λ (j : ℕ). fingerprint (paddedKind words j)) (sym row);
           }

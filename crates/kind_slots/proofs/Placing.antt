@@ -10,7 +10,7 @@ use lib.Dec.{eqb}
 use lib.ListN.{length, getD, set, replicate, length-set, length-replicate, getD-replicate, List·getD-eq-default}
 use lib.Seq.{getD-set-same, getD-set-other}
 use Rattle.kind_slots.specs.Stored.{paddedKind}
-use Rattle.kind_slots.specs.Slots.{kindSum, firstSlot, slotAfter, entryOf, rowOf, isFree, stepsToFree, entering, slotsOf, occupied}
+use Rattle.kind_slots.specs.Slots.{kindSum, firstSlot, slotAfter, fingerprint, entryOf, rowOf, isFree, stepsToFree, entering, slotsOf, occupied}
 use Rattle.kind_slots.proofs.Steps.{before-free, free-there, free-comes}
 use Rattle.kind_slots.proofs.Free.{some-free, one-more, none-occupied}
 
@@ -21,7 +21,7 @@ entry-some kind row e = omega arith
 pub entry-row : (kind : List ℕ) (row : ℕ) → row < 512 → rowOf (entryOf kind row) ≡ row
 entry-row kind row h = omega arith
 
-pub entry-print : (kind : List ℕ) (row : ℕ) → row < 512 → entryOf kind row / 512 ≡ kindSum kind % 107 + 1
+pub entry-print : (kind : List ℕ) (row : ℕ) → row < 512 → entryOf kind row / 1024 ≡ fingerprint kind
 entry-print kind row h = omega arith
 
 -- true is not false

@@ -1,30 +1,50 @@
 -- A search by the slots, step by step: what it has passed, where it ends, and that it comes nearer to an unoccupied slot.
-use mathlib.Core.Path.{_≡_, refl, ap, subst, sym, _∙_}
+use mathlib.Core.Path.{_≡_, refl, ap, ap₂, subst, sym, _∙_}
 use mathlib.Core.Bool.{Bool, true, false, _||_}
 use mathlib.Core.List.{List}
-use Prim.Native.Nat.{ℕ, zero, suc, _+_, _-_, _/_, _%_, _≤_, _<_}
+use Prim.Native.Nat.{ℕ, zero, suc, _+_, _-_, _*_, _^_, _/_, _%_, _≤_, _<_, min}
 use native.Mathlib.Omega.{arith}
 use native.Mathlib.Decide.{ℕ-discrete, decLt}
-use borrow.Author.Tests.{eq-eqb, ne-eqb}
+use borrow.Author.Tests.{eq-eqb, ne-eqb, eqb-true}
+use lib.Bits.{bitAnd, and-step, and-zero-l, and-zero-r, and-block}
 use lib.Dec.{eqb}
 use lib.ListN.{length, getD}
-use Rattle.foundation.specs.Search.{first, first-at}
+use Rattle.foundation.specs.Search.{first, first-at, first-before}
 use Rattle.foundation.specs.Tests.{choose}
 use Rattle.kind_slots.specs.Stored.{paddedKind, sameKind}
-use Rattle.kind_slots.specs.Slots.{kindSum, firstSlot, slotAfter, fingerprint, rowOf, isFree, stepsToFree, endsAt, slotOf, rowIn, Standing, Searchable}
+use Rattle.kind_slots.specs.Slots.{kindSum, firstSlot, slotAfter, fingerprint, rowOf, isFree, stepsToFree, othersOf, stepsPast, endsAt, slotOf, rowIn, Standing, HalfFree, Searchable}
 use Rattle.kind_slots.proofs.Same.{same-alike, alike-sum}
-use Rattle.kind_slots.proofs.Steps.{steps-are, before-free, free-there}
+use Rattle.kind_slots.proofs.Steps.{free-there}
 use Rattle.kind_slots.proofs.Placing.{opposed, comes-free}
 use Rattle.kind_slots.proofs.Finding.{or-known, or-other}
 
--- an entry of another fingerprint is of another kind
-pub other-print : (words : List ℕ) (entry : ℕ) (kind : List ℕ) → Standing words entry → (entry / 512 ≡ fingerprint kind → ⊥)
-    → false ≡ sameKind words (rowOf entry) kind
-other-print words entry kind s ne = go (sameKind words (rowOf entry) kind) refl
-  where
-    go : (b : Bool) → sameKind words (rowOf entry) kind ≡ b → false ≡ b
-    go false e = refl
-    go true e = absurd (ne (s .printed ∙ ap (λ (sum : ℕ). sum % 107 + 1) (alike-sum _ _ (same-alike _ _ e))))
+-- a number and what it lacks to all bits set have no bit in common
+no-common : (k p : ℕ) → p < 2 ^ k → bitAnd p (2 ^ k - 1 - p) ≡ 0
+no-common zero p h = let z : p ≡ 0 = omega arith in rw z (and-zero-l (2 ^ 0 - 1 - 0))
+no-common (suc k) p h =
+    let twice : 2 ^ suc k ≡ 2 * 2 ^ k = omega arith in
+    let halves : (2 ^ suc k - 1 - p) / 2 ≡ 2 ^ k - 1 - p / 2 = omega arith in
+    let ends : min (p % 2) ((2 ^ suc k - 1 - p) % 2) ≡ 0 = omega arith in
+    and-step p (2 ^ suc k - 1 - p) ∙ rw (halves, ends, no-common k (p / 2) (omega arith))
+
+print-few : (kind : List ℕ) → fingerprint kind < 2 ^ 22
+print-few kind = omega arith
+
+-- the other bits, as code comes to them
+pub others-are : (kind : List ℕ) {sum print others : ℕ} → sum ≡ kindSum kind → print ≡ sum % 2039 + (2047 - sum % 2039) * 2048 → others ≡ othersOf print
+    → others ≡ othersOf (fingerprint kind)
+others-are kind p q r = r ∙ ap othersOf (q ∙ ap (λ (sum : ℕ). sum % 2039 + (2047 - sum % 2039) * 2048) p)
+
+-- an entry of this kind has none of them
+same-none : (words : List ℕ) (entry : ℕ) (kind : List ℕ) → Standing words entry → sameKind words (rowOf entry) kind ≡ true
+    → bitAnd entry (othersOf (fingerprint kind)) ≡ 0
+same-none words entry kind s e =
+    let print : entry / 1024 ≡ fingerprint kind = s .printed ∙ ap (λ (sum : ℕ). sum % 2039 + (2047 - sum % 2039) * 2048) (alike-sum _ _ (same-alike _ _ e)) in
+    let parts : entry ≡ fingerprint kind * 2 ^ 10 + entry % 1024 = omega arith in
+    let others : othersOf (fingerprint kind) ≡ (2 ^ 22 - 1 - fingerprint kind) * 2 ^ 10 + 0 = omega arith in
+    ap₂ bitAnd parts others
+    ∙ and-block 10 (fingerprint kind) (2 ^ 22 - 1 - fingerprint kind) (entry % 1024) 0 (omega arith) (omega arith)
+    ∙ rw (no-common 22 (fingerprint kind) (print-few kind), and-zero-r (entry % 1024))
 
 -- the row in a slot, by its entry
 pub row-none : (slots : List ℕ) (slot n entry : ℕ) → entry ≡ getD slots slot 0 → entry ≡ 0 → n ≡ rowIn slots slot n
@@ -32,6 +52,75 @@ row-none slots slot n entry e z = rw (eq-eqb (getD slots slot 0) 0 (sym e ∙ z)
 
 pub row-some : (slots : List ℕ) (slot n entry row : ℕ) → entry ≡ getD slots slot 0 → (entry ≡ 0 → ⊥) → row ≡ rowOf entry → row ≡ rowIn slots slot n
 row-some slots slot n entry row e some q = rw (ne-eqb (getD slots slot 0) 0 (λ z. some (e ∙ z))) (q ∙ ap rowOf e)
+
+-- a second test that holds
+or-second : (a : Bool) {b : Bool} → b ≡ true → (a || b) ≡ true
+or-second true e = refl
+or-second false e = e
+
+-- a free slot has none of any bits
+free-none : (slots : List ℕ) (slot others : ℕ) → isFree slots slot ≡ true → eqb (bitAnd (getD slots slot 0) others) 0 ≡ true
+free-none slots slot others e =
+    ap (λ (x : ℕ). eqb (bitAnd x others) 0) (eqb-true (getD slots slot 0) 0 e) ∙ eq-eqb (bitAnd 0 others) 0 (and-zero-l others)
+
+-- from a place on, the slots of the first k places have some of these bits
+abbrev pub Past : (slots : List ℕ) (from others : ℕ) → ℕ → Type 0
+Past slots from others k = (j : ℕ) → j < k → eqb (bitAnd (getD slots (slotAfter from j) 0) others) 0 ≡ false
+
+pub steps-past : (slots : List ℕ) (from others : ℕ) → Past slots from others (stepsPast slots from others)
+unfolding stepsPast
+steps-past slots from others j l = first-before (λ k. eqb (bitAnd (getD slots (slotAfter from k) 0) others) 0) 1024 j l
+
+-- slots are gone through from a place on, up to here
+pub record Along (slots : List ℕ) (from others place : ℕ) : Type 0 where
+  pub steps : ℕ
+  pub placed : place ≡ from + steps
+  pub past : Past slots from others steps
+
+pub along-none : (slots : List ℕ) (from others : ℕ) → Along slots from others from
+along-none slots from others = record { steps = 0; placed = omega arith; past = λ j l. absurd (omega arith) }
+
+module _ (slots : List ℕ) (half : HalfFree slots) (from others : ℕ) where
+  past-few : (k : ℕ) → Past slots from others k → k < 1024
+  past-few k past = go (decLt k 1024)
+    where
+      free : stepsToFree slots (from % 1024) < 1024
+      free = comes-free slots (half .long) (omega (arith, half .few)) (from % 1024) (omega arith)
+
+      same : slotAfter (from % 1024) (stepsToFree slots (from % 1024)) ≡ slotAfter from (stepsToFree slots (from % 1024))
+      same = omega arith
+
+      none : eqb (bitAnd (getD slots (slotAfter from (stepsToFree slots (from % 1024))) 0) others) 0 ≡ true
+      none = free-none slots (slotAfter from (stepsToFree slots (from % 1024))) others (ap (isFree slots) (sym same) ∙ free-there slots (from % 1024) free)
+
+      go : Dec (k < 1024) → k < 1024
+      go (yes l) = l
+      go (no l) = absurd (opposed none (past (stepsToFree slots (from % 1024)) (omega (arith, free))))
+
+  module _ {place : ℕ} (along : Along slots from others place) where
+    pub along-few : place < from + 1024
+    along-few = omega (arith, along .placed, past-few (along .steps) (along .past))
+
+    -- what the slot of this place has
+    module _ {slot entry : ℕ} (here : slot ≡ place % 1024) (read : entry ≡ getD slots slot 0) where
+      entry-here : entry ≡ getD slots (slotAfter from (along .steps)) 0
+      entry-here = read ∙ ap (λ (i : ℕ). getD slots i 0) (omega (arith, along .placed))
+
+      pub along-more : (bitAnd entry others ≡ 0 → ⊥) → Along slots from others (place + 1)
+      along-more some = record { steps = along .steps + 1; placed = omega (arith, along .placed); past = λ j l. go j l (ℕ-discrete j (along .steps)) }
+        where
+          go : (j : ℕ) → j < along .steps + 1 → Dec (j ≡ along .steps) → eqb (bitAnd (getD slots (slotAfter from j) 0) others) 0 ≡ false
+          go j l (yes q) = rw q (ne-eqb _ 0 (λ z. some (ap (λ (x : ℕ). bitAnd x others) entry-here ∙ z)))
+          go j l (no q) = along .past j (omega arith)
+
+      pub along-ends : bitAnd entry others ≡ 0 → place ≡ from + stepsPast slots from others
+      unfolding stepsPast
+      along-ends none =
+          along .placed
+          ∙ ap (λ (k : ℕ). from + k)
+          (sym
+          (first-at (λ j. eqb (bitAnd (getD slots (slotAfter from j) 0) others) 0) 1024 (along .steps) (past-few (along .steps) (along .past)) (along .past)
+          (eq-eqb _ _ (sym (ap (λ (x : ℕ). bitAnd x others) entry-here) ∙ none))))
 
 module _ (words slots kind : List ℕ) where
   -- none of the first k slots of the search ends it
@@ -45,70 +134,69 @@ module _ (words slots kind : List ℕ) where
     pub read : entry ≡ getD slots (slotAfter (firstSlot kind) steps) 0
     pub passed : Passed steps
 
-  -- .. at the first slot
-  pub at-first : {place slot entry : ℕ} → place ≡ firstSlot kind → slot ≡ place % 1024 → entry ≡ getD slots slot 0 → At place entry
-  at-first p q e =
-      record {
-        steps = 0;
-        placed = omega arith;
-        read = e ∙ ap (λ (i : ℕ). getD slots i 0) (omega arith);
-        passed = λ j l. absurd (omega arith);
-      }
-
 module _ (words slots kind : List ℕ) (s : Searchable words slots) where
-  free-comes : (slot : ℕ) → slot < 1024 → stepsToFree slots slot < 1024
-  free-comes slot h = comes-free slots (s .long) (omega (arith, s .few)) slot h
-
   pub passed-few : (k : ℕ) → Passed words slots kind k → k < 1024
   passed-few k passed = go (decLt k 1024)
     where
       free : stepsToFree slots (firstSlot kind) < 1024
-      free = free-comes (firstSlot kind) (omega arith)
+      free = comes-free slots (s .half .long) (omega (arith, s .half .few)) (firstSlot kind) (omega arith)
 
       go : Dec (k < 1024) → k < 1024
       go (yes l) = l
       go (no l) = absurd (opposed (or-known _ (free-there slots (firstSlot kind) free)) (passed (stepsToFree slots (firstSlot kind)) (omega (arith, free))))
 
   -- the search ends
-  pub ends-here : (k : ℕ) → Passed words slots kind k → endsAt words slots kind (slotAfter (firstSlot kind) k) ≡ true → slotAfter (firstSlot kind) k ≡ slotOf words slots kind
+  ends-here : (k : ℕ) → Passed words slots kind k → endsAt words slots kind (slotAfter (firstSlot kind) k) ≡ true → slotAfter (firstSlot kind) k ≡ slotOf words slots kind
   unfolding slotOf
   ends-here k passed e =
       ap (slotAfter (firstSlot kind)) (sym (first-at (λ j. endsAt words slots kind (slotAfter (firstSlot kind) j)) 1024 k (passed-few k passed) passed e))
 
-  -- one more slot is passed
-  pub passed-more : (k : ℕ) → Passed words slots kind k → endsAt words slots kind (slotAfter (firstSlot kind) k) ≡ false → Passed words slots kind (k + 1)
-  passed-more k passed e j l = go (ℕ-discrete j k)
+  -- a slot that has some of the other bits does not end it
+  goes-on : (slot : ℕ) → eqb (bitAnd (getD slots slot 0) (othersOf (fingerprint kind))) 0 ≡ false → endsAt words slots kind slot ≡ false
+  goes-on slot some = go (isFree slots slot) refl (sameKind words (rowOf (getD slots slot 0)) kind) refl
     where
-      go : Dec (j ≡ k) → endsAt words slots kind (slotAfter (firstSlot kind) j) ≡ false
-      go (yes q) = rw q e
-      go (no q) = passed j (omega arith)
+      go : (a : Bool) → isFree slots slot ≡ a → (b : Bool) → sameKind words (rowOf (getD slots slot 0)) kind ≡ b → (a || b) ≡ false
+      go true e b q = absurd (opposed (free-none slots slot (othersOf (fingerprint kind)) e) some)
+      go false e true q = absurd (opposed (eq-eqb _ _ (same-none words (getD slots slot 0) kind (s .stands slot e) q)) some)
+      go false e false q = refl
 
-  -- from an occupied slot to the next it comes nearer to an unoccupied one
-  pub nearer : (slot next : ℕ) → slot < 1024 → isFree slots slot ≡ false → next ≡ slotAfter slot 1 → stepsToFree slots next < stepsToFree slots slot
-  nearer slot next h e q = go (stepsToFree slots slot) refl
+  -- so many slots that do not end it are passed at once
+  passed-on : (k d from others : ℕ) → Passed words slots kind k → from ≡ firstSlot kind + k → others ≡ othersOf (fingerprint kind)
+      → Past slots from others d
+      → Passed words slots kind (k + d)
+  passed-on k d from others passed p q past j l = go (decLt j k)
     where
-      few : stepsToFree slots slot < 1024
-      few = free-comes slot h
+      go : Dec (j < k) → endsAt words slots kind (slotAfter (firstSlot kind) j) ≡ false
+      go (yes b) = passed j b
+      go (no b) =
+          let there : slotAfter from (j - k) ≡ slotAfter (firstSlot kind) j = omega arith in
+          rw there at
+          (goes-on (slotAfter from (j - k))
+          (ap (λ (o : ℕ). eqb (bitAnd (getD slots (slotAfter from (j - k)) 0) o) 0) (sym q) ∙ past (j - k) (omega arith)))
 
-      same : (k : ℕ) → slotAfter next k ≡ slotAfter slot (suc k)
-      same k = omega arith
+  -- the search comes to the next slot that may end it
+  pub at-past : {from : ℕ} (k : ℕ) → Passed words slots kind k → from ≡ firstSlot kind + k
+      → {others place slot entry : ℕ} → others ≡ othersOf (fingerprint kind) → place ≡ from + stepsPast slots from others → slot ≡ place % 1024 → entry ≡ getD slots slot 0
+      → At words slots kind place entry
+  at-past {from} k passed p {others} q r t e =
+      record {
+        steps = k + stepsPast slots from others;
+        placed = omega arith;
+        read = e ∙ ap (λ (i : ℕ). getD slots i 0) (omega arith);
+        passed = passed-on k (stepsPast slots from others) from others passed p q (steps-past slots from others);
+      }
 
-      go : (d : ℕ) → stepsToFree slots slot ≡ d → stepsToFree slots next < d
-      go zero z =
-          let here : slotAfter slot (stepsToFree slots slot) ≡ slot = omega arith in
-          absurd (opposed (ap (isFree slots) (sym here) ∙ free-there slots slot few) e)
-      go (suc d) z =
-          let steps : stepsToFree slots next ≡ d =
-          steps-are slots next d (omega (arith, few))
-          (λ j l. ap (isFree slots) (same j) ∙ before-free slots slot (suc j) (omega arith))
-          (ap (isFree slots) (same d) ∙ ap (λ (k : ℕ). isFree slots (slotAfter slot k)) (sym z) ∙ free-there slots slot few) in
-          omega arith
+  -- .. the first one
+  pub at-first : {from others place slot entry : ℕ} → from ≡ firstSlot kind → others ≡ othersOf (fingerprint kind) → place ≡ from + stepsPast slots from others → slot ≡ place % 1024
+      → entry ≡ getD slots slot 0
+      → At words slots kind place entry
+  at-first p = at-past 0 (λ j l. absurd (omega arith)) (omega arith)
 
   module _ {place entry : ℕ} (at : At words slots kind place entry) where
     same-slot : place % 1024 ≡ slotAfter (firstSlot kind) (at .steps)
     same-slot = omega (arith, at .placed)
 
-    pub at-few : place < 2048
+    pub at-few : place < firstSlot kind + 1024
     at-few = omega (arith, at .placed, passed-few (at .steps) (at .passed))
 
     occupied-here : (entry ≡ 0 → ⊥) → isFree slots (slotAfter (firstSlot kind) (at .steps)) ≡ false
@@ -120,26 +208,23 @@ module _ (words slots kind : List ℕ) (s : Searchable words slots) where
     -- the search ends at a row of this kind
     pub ends-row : sameKind words (rowOf entry) kind ≡ true → place % 1024 ≡ slotOf words slots kind
     ends-row e =
-        same-slot ∙ ends-here (at .steps) (at .passed) (row-ends (isFree slots (slotAfter (firstSlot kind) (at .steps))) (sym (ap (λ (x : ℕ). sameKind words (rowOf x) kind) (at .read)) ∙ e))
-      where
-        row-ends : (a : Bool) {b : Bool} → b ≡ true → (a || b) ≡ true
-        row-ends true e = refl
-        row-ends false e = e
+        same-slot
+        ∙ ends-here (at .steps) (at .passed)
+        (or-second (isFree slots (slotAfter (firstSlot kind) (at .steps))) (sym (ap (λ (x : ℕ). sameKind words (rowOf x) kind) (at .read)) ∙ e))
 
     -- .. or at an unoccupied slot
     pub ends-free : entry ≡ 0 → place % 1024 ≡ slotOf words slots kind
     ends-free z = same-slot ∙ ends-here (at .steps) (at .passed) (or-known _ (eq-eqb _ 0 (sym (at .read) ∙ z)))
 
-    module _ (some : entry ≡ 0 → ⊥) where
-      -- or goes on to the next slot
-      pub at-next : sameKind words (rowOf entry) kind ≡ false → {slot next : ℕ} → slot ≡ (place + 1) % 1024 → next ≡ getD slots slot 0 → At words slots kind (place + 1) next
-      at-next e q r =
-          record {
-            steps = at .steps + 1;
-            placed = omega (arith, at .placed);
-            read = r ∙ ap (λ (i : ℕ). getD slots i 0) (omega (arith, at .placed));
-            passed = passed-more (at .steps) (at .passed) (or-other _ (occupied-here some) ∙ sym (ap (λ (x : ℕ). sameKind words (rowOf x) kind) (at .read)) ∙ e);
-          }
+    -- or goes on behind a row of another kind
+    pub passed-row : (entry ≡ 0 → ⊥) → sameKind words (rowOf entry) kind ≡ false → Passed words slots kind (at .steps + 1)
+    passed-row some e j l = go (ℕ-discrete j (at .steps))
+      where
+        go : Dec (j ≡ at .steps) → endsAt words slots kind (slotAfter (firstSlot kind) j) ≡ false
+        go (yes q) = rw q (or-other _ (occupied-here some) ∙ sym (ap (λ (x : ℕ). sameKind words (rowOf x) kind) (at .read)) ∙ e)
+        go (no q) = at .passed j (omega arith)
 
-      pub at-nearer : stepsToFree slots ((place + 1) % 1024) < stepsToFree slots (place % 1024)
-      at-nearer = nearer (place % 1024) ((place + 1) % 1024) (omega arith) (ap (isFree slots) same-slot ∙ occupied-here some) (omega arith)
+    pub at-next : (entry ≡ 0 → ⊥) → sameKind words (rowOf entry) kind ≡ false
+        → {others place′ slot entry′ : ℕ} → others ≡ othersOf (fingerprint kind) → place′ ≡ place + 1 + stepsPast slots (place + 1) others → slot ≡ place′ % 1024 → entry′ ≡ getD slots slot 0
+        → At words slots kind place′ entry′
+    at-next some e = at-past (at .steps + 1) (passed-row some e) (omega (arith, at .placed))

@@ -1,10 +1,11 @@
 -- The slots of a list of kinds. "Keep beside it 1,024 slots, entered at the five words added with the carry out of 64 bits dropped,
--- modulo 1,024, going on to the next slot, after the last the first, while occupied." A slot has 0, or an entry: a row, and above it a
--- fingerprint of the row's kind, by which most rows of other kinds are told without a look at their words.
+-- modulo 1,024, going on to the next slot, after the last the first, while occupied." A slot has 0, or an entry: a row, and above it
+-- a fingerprint of the row's kind, by which most rows of other kinds are told without a look at their words.
 use mathlib.Core.Bool.{Bool, false, _||_}
 use mathlib.Core.List.{List, [], _∷_}
 use mathlib.Core.Path.{_≡_}
-use Prim.Native.Nat.{ℕ, zero, suc, _+_, _*_, _^_, _/_, _%_, _<_, _≤_}
+use Prim.Native.Nat.{ℕ, zero, suc, _+_, _-_, _*_, _^_, _/_, _%_, _<_, _≤_}
+use lib.Bits.{bitAnd}
 use lib.Dec.{eqb}
 use lib.ListN.{getD, set, length, replicate}
 use Rattle.foundation.specs.Tests.{choose}
@@ -22,15 +23,19 @@ firstSlot kind = kindSum kind % 1024
 abbrev pub slotAfter : (slot steps : ℕ) → ℕ
 slotAfter slot steps = (slot + steps) % 1024
 
--- an entry, and what is read of it
+-- a number of eleven bits, and above it what it lacks to 2,047: so no fingerprint has all the bits of another
 abbrev pub fingerprint : List ℕ → ℕ
-fingerprint kind = kindSum kind % 107 + 1
+fingerprint kind = kindSum kind % 2039 + (2047 - kindSum kind % 2039) * 2048
 
+-- an entry, what is read of it, and the bits that no entry with this fingerprint has
 abbrev pub entryOf : List ℕ → ℕ → ℕ
-entryOf kind row = fingerprint kind * 512 + row
+entryOf kind row = fingerprint kind * 1024 + row
 
 abbrev pub rowOf : ℕ → ℕ
-rowOf entry = entry % 512
+rowOf entry = entry % 1024
+
+abbrev pub othersOf : ℕ → ℕ
+othersOf print = (2 ^ 22 - 1 - print) * 1024
 
 -- "while occupied": how many steps it is from a slot to the first that is not occupied
 abbrev pub isFree : List ℕ → ℕ → Bool
@@ -55,6 +60,10 @@ endsAt words slots kind slot = isFree slots slot || sameKind words (rowOf (getD 
 unfoldable pub slotOf : (words slots kind : List ℕ) → ℕ
 slotOf words slots kind = slotAfter (firstSlot kind) (first (λ k. endsAt words slots kind (slotAfter (firstSlot kind) k)) 1024)
 
+-- how many steps it is from a place to the first entry, or free slot, that has none of these bits
+unfoldable pub stepsPast : List ℕ → (place others : ℕ) → ℕ
+stepsPast slots place others = first (λ k. eqb (bitAnd (getD slots (slotAfter place k) 0) others) 0) 1024
+
 -- the row in a slot, or n
 abbrev pub rowIn : List ℕ → (slot n : ℕ) → ℕ
 rowIn slots slot n = choose (isFree slots slot) n (rowOf (getD slots slot 0))
@@ -67,12 +76,16 @@ occupied (entry ∷ slots) = choose (eqb entry 0) 0 1 + occupied slots
 -- the row of an entry stands in the words, under its kind's fingerprint
 pub record Standing (words : List ℕ) (entry : ℕ) : Type 0 where
   pub inside : 5 * rowOf entry + 5 ≤ length words
-  pub printed : entry / 512 ≡ fingerprint (paddedKind words (rowOf entry))
+  pub printed : entry / 1024 ≡ fingerprint (paddedKind words (rowOf entry))
 
--- what a search by the slots asks: one that is not occupied will come, and the rows in the others stand in the words
-pub record Searchable (words slots : List ℕ) : Type 0 where
+-- there are 1,024 slots, of which at most half are occupied
+pub record HalfFree (slots : List ℕ) : Type 0 where
   pub long : length slots ≡ 1024
   pub few : occupied slots ≤ 512
+
+-- what a search by the slots asks: so one comes that is not occupied; and the rows in the others stand in the words
+pub record Searchable (words slots : List ℕ) : Type 0 where
+  pub half : HalfFree slots
   pub stands : (slot : ℕ) → isFree slots slot ≡ false → Standing words (getD slots slot 0)
 
 -- the slots are those of a list of n distinct kinds, at most 512

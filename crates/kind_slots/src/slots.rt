@@ -1,9 +1,8 @@
 // The slots: where a kind enters them, the search for it, and the entry of its row.
 ghost use mathlib.Core.Path.{_≡_};
-ghost use Prim.Native.Nat.{_+_, _^_, _%_, _<_};
-ghost use lib.ListN.{set};
-ghost use Rattle.kind_slots.specs.Stored.{sameKind};
-ghost use Rattle.kind_slots.specs.Slots.{kindSum, fingerprint, entryOf, rowOf, slotOf, rowIn, Standing, Searchable};
+ghost use Prim.Native.Nat.{_+_, _-_, _*_, _^_, _%_, _<_};
+ghost use lib.ListN.{getD, set};
+ghost use Rattle.kind_slots.specs.Slots.{kindSum, entryOf, rowOf, othersOf, stepsPast, slotOf, rowIn, HalfFree, Searchable};
 use crate::stored::same_kind;
 
 // The number of a slot.
@@ -26,11 +25,20 @@ fn kind_sum(kind: &[u64; 6]) -> u64
     plus(four, kind[4])
 }
 
-// The fingerprint of a kind with this sum: 2 to the 0th up to the 63rd power leave 60 different remainders by 107.
-fn print_of(sum: u64) -> u16
-    ensures { λ r. ⌜ r ≡ sum % 107 + 1 ⌝ }
+// The fingerprint of a kind with this sum.
+fn print_of(sum: u64) -> u32
+    ensures { λ r. ⌜ r ≡ sum % 2039 + (2047 - sum % 2039) * 2048 ⌝ }
 {
-    (sum % 107 + 1) as u16
+    let low = (sum % 2039) as u32;
+    low + (2047 - low) * 2048
+}
+
+// The bits that no entry with this fingerprint has.
+fn others_of(print: u32) -> u32
+    requires { ⌜ print < 2 ^ 22 ⌝ }
+    ensures { λ r. ⌜ r ≡ othersOf print ⌝ }
+{
+    (4194303 - print) * 1024
 }
 
 // The slot at a place, where place 1,024 is the first slot again.
@@ -41,53 +49,54 @@ fn slot_at(place: usize) -> Slot
 }
 
 // What a slot has.
-fn entry_in(slots: &[u16; 1024], slot: Slot) -> u16
+fn entry_in(slots: &[u32; 1024], slot: Slot) -> u32
     requires { ⌜ slot .0 < 1024 ⌝ }
-    ensures { λ r. ⌜ r ≡ lib.ListN.getD (now (slots .entry)) (slot .0) 0 ⌝ }
+    ensures { λ r. ⌜ r ≡ getD (now (slots .entry)) (slot .0) 0 ⌝ }
 {
     let at = slot.0;
     slots[at]
 }
 
 // The row of an entry.
-fn row_of(entry: u16) -> usize
+fn row_of(entry: u32) -> usize
     ensures { λ r. ⌜ r ≡ rowOf entry ⌝ }
 {
-    (entry % 512) as usize
+    (entry % 1024) as usize
 }
 
-// Whether the row of an entry has this kind, whose fingerprint is `print`.
-fn is_of_kind(words: &[u64], entry: u16, kind: &[u64; 6], print: u16) -> bool
-    requires { ⌜ Standing (now words) entry × (print ≡ fingerprint (now kind)) ⌝ }
-    ensures { λ r. ⌜ r ≡ sameKind (now (words .entry)) (rowOf entry) (now (kind .entry)) ⌝ }
+// The first place from a place on whose slot has none of these bits.
+fn pass_others(slots: &[u32; 1024], from: usize, others: u32) -> usize
+    requires { ⌜ HalfFree (now slots) × (from < 4096) ⌝ }
+    ensures { λ r. ⌜ r ≡ from + stepsPast (now (slots .entry)) from others ⌝ }
 {
-    if entry / 512 == print {
-        return same_kind(words, row_of(entry), kind);
+    let mut place: usize = from;
+    while entry_in(slots, slot_at(place)) & others != 0 {
+        place += 1;
     }
-    false
+    place
 }
 
 // The slot at which the search for a kind ends: its row is the one of this kind, or it is not occupied.
-pub fn find_slot(words: &[u64], slots: &[u16; 1024], kind: &[u64; 6]) -> Slot
+pub fn find_slot(words: &[u64], slots: &[u32; 1024], kind: &[u64; 6]) -> Slot
     requires { ⌜ Searchable (now words) (now slots) ⌝ }
     ensures { λ r. ⌜ r .0 ≡ slotOf (now (words .entry)) (now (slots .entry)) (now (kind .entry)) ⌝ }
 {
     let sum = kind_sum(kind);
-    let print = print_of(sum);
-    let mut place: usize = (sum % 1024) as usize;
+    let others = others_of(print_of(sum));
+    let mut place: usize = pass_others(slots, (sum % 1024) as usize, others);
     let mut entry = entry_in(slots, slot_at(place));
     while entry != 0 {
-        if is_of_kind(words, entry, kind, print) {
+        if same_kind(words, row_of(entry), kind) {
             return slot_at(place);
         }
-        place += 1;
+        place = pass_others(slots, place + 1, others);
         entry = entry_in(slots, slot_at(place));
     }
     slot_at(place)
 }
 
 // The row in a slot, or `count` where it is not occupied.
-pub fn row_in(slots: &[u16; 1024], slot: Slot, count: usize) -> usize
+pub fn row_in(slots: &[u32; 1024], slot: Slot, count: usize) -> usize
     requires { ⌜ slot .0 < 1024 ⌝ }
     ensures { λ r. ⌜ r ≡ rowIn (now (slots .entry)) (slot .0) count ⌝ }
 {
@@ -99,11 +108,11 @@ pub fn row_in(slots: &[u16; 1024], slot: Slot, count: usize) -> usize
 }
 
 // Row j, which has this kind, enters a slot.
-pub fn enter_row(slots: &mut [u16; 1024], slot: Slot, kind: &[u64; 6], j: usize)
+pub fn enter_row(slots: &mut [u32; 1024], slot: Slot, kind: &[u64; 6], j: usize)
     requires { ⌜ (slot .0 < 1024) × (j < 512) ⌝ }
     ensures { λ _. ⌜ now (slots .exit) ≡ set (now (slots .entry)) (slot .0) (entryOf (now (kind .entry)) j) ⌝ }
 {
     let at = slot.0;
     let print = print_of(kind_sum(kind));
-    slots[at] = print * 512 + j as u16;
+    slots[at] = print * 1024 + j as u32;
 }

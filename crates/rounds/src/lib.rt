@@ -27,7 +27,7 @@ fn one_round(
     round: Round,
     lefts: &[u16; 512],
     rights: &[u16; 512],
-    slots: &mut [u16; 1024],
+    slots: &mut [u32; 1024],
     rows: &mut [u16],
     words: &mut [u64],
     room: &mut [u64; 256],
@@ -76,7 +76,7 @@ fn all_rounds(
     right_masks: &[u64; 80],
     limit: usize,
     count: usize,
-    slots: &mut [u16; 1024],
+    slots: &mut [u32; 1024],
     rows: &mut [u16],
     words: &mut [u64],
     room: &mut [u64; 256],
@@ -135,7 +135,7 @@ fn first_round(
     prepared: Prepared,
     table: &[u16],
     limit: usize,
-    slots: &mut [u16; 1024],
+    slots: &mut [u32; 1024],
     rows: &mut [u16],
     words: &mut [u64],
     room: &mut [u64; 256],
@@ -173,7 +173,7 @@ pub fn list_kinds(
     ensures { λ r. ⌜ Lists prepared (now (table .entry)) limit (now (rows .exit)) (now (words .exit)) r ⌝ }
 {
     let mut room = [0u64; 256];
-    let mut slots = [0u16; 1024];
+    let mut slots = [0u32; 1024];
     let step = first_round(prepared, table, limit, &mut slots, rows, words, &mut room);
     let Progress::Going(count) = step else {
         return step;

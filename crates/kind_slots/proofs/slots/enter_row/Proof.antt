@@ -1,7 +1,7 @@
 -- The entry is the fingerprint over the row.
 use mathlib.Core.Path.{ap, _∙_}
 use mathlib.Core.List.{List}
-use Prim.Native.Nat.{ℕ, _+_, _*_, _%_}
+use Prim.Native.Nat.{ℕ, _+_, _-_, _*_, _%_}
 use lib.ListN.{set}
 use native.Mathlib.Omega.{arith}
 use borrow.Author.Needs.{needs}
@@ -30,7 +30,7 @@ element-write-slots : tie.Need-element-write-slots
 element-write-slots c = search needs
 
 returns : tie.Need-returns
-returns c = ap (λ (print : ℕ). set (c .before .before .args .slots .now) (c .before .before .args .slot .0) (print * 512 + c .before .before .args .j)) ((c .print-of .ensures) ∙ ap (λ (sum : ℕ). sum % 107 + 1) (c .before .kind-sum .ensures))
+returns c = ap (λ (print : ℕ). set (c .before .before .args .slots .now) (c .before .before .args .slot .0) (print * 1024 + c .before .before .args .j)) ((c .print-of .ensures) ∙ ap (λ (sum : ℕ). sum % 2039 + (2047 - sum % 2039) * 2048) (c .before .kind-sum .ensures))
 
 pub enter-row-spec : {M : Type 1} → statement M
 enter-row-spec =
