@@ -1,7 +1,8 @@
 // The slots: where a kind enters them, the search for it, and the entry of its row.
 ghost use mathlib.Core.Path.{_≡_};
-ghost use Prim.Native.Nat.{_+_, _-_, _*_, _^_, _%_, _<_};
-ghost use lib.ListN.{getD, set};
+ghost use Prim.Native.Nat.{_+_, _-_, _*_, _^_, _%_, _<_, _≤_};
+ghost use lib.ListN.{getD, set, length};
+ghost use Rattle.kind_slots.specs.Stored.{sameKind};
 ghost use Rattle.kind_slots.specs.Slots.{kindSum, entryOf, rowOf, othersOf, stepsPast, slotOf, rowIn, HalfFree, Searchable};
 use crate::stored::same_kind;
 
@@ -64,6 +65,14 @@ fn row_of(entry: u32) -> usize
     (entry % 1024) as usize
 }
 
+// Whether the row of an entry has this kind.
+fn is_of_kind(words: &[u64], entry: u32, kind: &[u64; 6]) -> bool
+    requires { ⌜ 5 * rowOf entry + 5 ≤ length (now words) ⌝ }
+    ensures { λ r. ⌜ r ≡ sameKind (now (words .entry)) (rowOf entry) (now (kind .entry)) ⌝ }
+{
+    same_kind(words, row_of(entry), kind)
+}
+
 // The first place from a place on whose slot has none of these bits.
 fn pass_others(slots: &[u32; 1024], from: usize, others: u32) -> usize
     requires { ⌜ HalfFree (now slots) × (from < 4096) ⌝ }
@@ -86,7 +95,7 @@ pub fn find_slot(words: &[u64], slots: &[u32; 1024], kind: &[u64; 6]) -> Slot
     let mut place: usize = pass_others(slots, (sum % 1024) as usize, others);
     let mut entry = entry_in(slots, slot_at(place));
     while entry != 0 {
-        if same_kind(words, row_of(entry), kind) {
+        if is_of_kind(words, entry, kind) {
             return slot_at(place);
         }
         place = pass_others(slots, place + 1, others);

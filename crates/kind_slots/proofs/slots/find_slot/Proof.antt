@@ -4,7 +4,6 @@ use mathlib.Core.Path.{ap, sym, _∙_}
 use Prim.Native.Nat.{ℕ, _+_, _-_, _%_}
 use native.Mathlib.Omega.{arith}
 use borrow.Author.Needs.{needs}
-use Rattle.kind_slots.specs.Stored.{sameKind}
 use Rattle.kind_slots.specs.Slots.{firstSlot}
 use Rattle.kind_slots.proofs.Searching.{others-are, At, at-first, at-few, at-stands, at-next, ends-row, ends-free}
 use Rattle.kind_slots.proofs.slots.find_slot.Statement.{statement}
@@ -37,23 +36,20 @@ entry-in-requires c κs = omega (arith, c .slot-at .ensures)
 loop-holds : tie.Need-loop-holds Inv-loop μ-loop
 loop-holds c = at-first _ _ _ (c .before .before .before .before .before .before .before .pre) (ap (λ (sum : ℕ). sum % 1024) (c .before .before .before .before .before .kind-sum .ensures)) (others-are _ (c .before .before .before .before .before .kind-sum .ensures) (c .before .before .before .before .print-of .ensures) (c .before .before .before .others-of .ensures)) (c .before .before .pass-others .ensures) (c .before .slot-at .ensures) (c .entry-in .ensures)
 
-row-of-requires : tie.Need-row-of-requires Inv-loop μ-loop
-row-of-requires c κs = search needs
-
-same-kind-requires : tie.Need-same-kind-requires Inv-loop μ-loop
-same-kind-requires c κs = omega (arith, c .row-of .ensures, at-stands _ _ _ (c .before .before .before .before .before .before .before .before .before .before .pre) (c .before .before .loop .inv) (c .before .loop-test .taken) .inside)
+is-of-kind-requires : tie.Need-is-of-kind-requires Inv-loop μ-loop
+is-of-kind-requires c κs = at-stands _ _ _ (c .before .before .before .before .before .before .before .before .before .pre) (c .before .loop .inv) (c .loop-test .taken) .inside
 
 slot-at-requires-2 : tie.Need-slot-at-requires-2 Inv-loop μ-loop
 slot-at-requires-2 c κs = search needs
 
 returns : tie.Need-returns Inv-loop μ-loop
-returns c = (c .slot-at2 .ensures) ∙ ends-row _ _ _ (c .before .before .before .before .before .before .before .before .before .before .before .before .before .pre) (c .before .before .before .before .before .loop .inv) (ap (λ (j : ℕ). sameKind (c .before .before .before .before .before .before .before .before .before .before .before .before .before .args .words .now) j (c .before .before .before .before .before .before .before .before .before .before .before .before .before .args .kind .now)) (sym (c .before .before .before .row-of .ensures)) ∙ sym (c .before .before .same-kind .ensures) ∙ c .before .if1 .taken)
+returns c = (c .slot-at2 .ensures) ∙ ends-row _ _ _ (c .before .before .before .before .before .before .before .before .before .before .before .before .pre) (c .before .before .before .before .loop .inv) (sym (c .before .before .is-of-kind .ensures) ∙ c .before .if1 .taken)
 
 add-pass-others : tie.Need-add-pass-others Inv-loop μ-loop
-add-pass-others c = omega (arith, at-few _ _ _ (c .before .before .before .before .before .before .before .before .before .before .before .before .pre) (c .before .before .before .before .loop .inv))
+add-pass-others c = omega (arith, at-few _ _ _ (c .before .before .before .before .before .before .before .before .before .before .before .pre) (c .before .before .before .loop .inv))
 
 pass-others-requires-2 : tie.Need-pass-others-requires-2 Inv-loop μ-loop
-pass-others-requires-2 c κs = (c .before .before .before .before .before .before .before .before .before .before .before .before .pre .half, omega (arith, at-few _ _ _ (c .before .before .before .before .before .before .before .before .before .before .before .before .pre) (c .before .before .before .before .loop .inv)))
+pass-others-requires-2 c κs = (c .before .before .before .before .before .before .before .before .before .before .before .pre .half, omega (arith, at-few _ _ _ (c .before .before .before .before .before .before .before .before .before .before .before .pre) (c .before .before .before .loop .inv)))
 
 slot-at-requires-3 : tie.Need-slot-at-requires-3 Inv-loop μ-loop
 slot-at-requires-3 c κs = search needs
@@ -62,10 +58,10 @@ entry-in-requires-2 : tie.Need-entry-in-requires-2 Inv-loop μ-loop
 entry-in-requires-2 c κs = omega (arith, c .slot-at3 .ensures)
 
 loop-less : tie.Need-loop-less Inv-loop μ-loop
-loop-less c = omega (arith, c .before .before .pass-others2 .ensures, at-few _ _ _ (c .before .before .before .before .before .before .before .before .before .before .before .before .before .before .before .pre) (c .before .before .before .before .before .before .before .loop .inv))
+loop-less c = omega (arith, c .before .before .pass-others2 .ensures, at-few _ _ _ (c .before .before .before .before .before .before .before .before .before .before .before .before .before .before .pre) (c .before .before .before .before .before .before .loop .inv))
 
 loop-again : tie.Need-loop-again Inv-loop μ-loop
-loop-again c = at-next _ _ _ (c .before .before .before .before .before .before .before .before .before .before .before .before .before .before .before .pre) (c .before .before .before .before .before .before .before .loop .inv) (c .before .before .before .before .before .before .loop-test .taken) (ap (λ (j : ℕ). sameKind (c .before .before .before .before .before .before .before .before .before .before .before .before .before .before .before .args .words .now) j (c .before .before .before .before .before .before .before .before .before .before .before .before .before .before .before .args .kind .now)) (sym (c .before .before .before .before .before .row-of .ensures)) ∙ sym (c .before .before .before .before .same-kind .ensures) ∙ c .before .before .before .if1 .left) (others-are _ (c .before .before .before .before .before .before .before .before .before .before .before .before .before .kind-sum .ensures) (c .before .before .before .before .before .before .before .before .before .before .before .before .print-of .ensures) (c .before .before .before .before .before .before .before .before .before .before .before .others-of .ensures)) (c .before .before .pass-others2 .ensures) (c .before .slot-at3 .ensures) (c .entry-in2 .ensures)
+loop-again c = at-next _ _ _ (c .before .before .before .before .before .before .before .before .before .before .before .before .before .before .pre) (c .before .before .before .before .before .before .loop .inv) (c .before .before .before .before .before .loop-test .taken) (sym (c .before .before .before .before .is-of-kind .ensures) ∙ c .before .before .before .if1 .left) (others-are _ (c .before .before .before .before .before .before .before .before .before .before .before .before .kind-sum .ensures) (c .before .before .before .before .before .before .before .before .before .before .before .print-of .ensures) (c .before .before .before .before .before .before .before .before .before .before .others-of .ensures)) (c .before .before .pass-others2 .ensures) (c .before .slot-at3 .ensures) (c .entry-in2 .ensures)
 
 slot-at-requires-4 : tie.Need-slot-at-requires-4 Inv-loop μ-loop
 slot-at-requires-4 c κs = search needs
@@ -86,8 +82,7 @@ find-slot-spec =
     slot-at-requires
     entry-in-requires
     loop-holds
-    row-of-requires
-    same-kind-requires
+    is-of-kind-requires
     slot-at-requires-2
     returns
     add-pass-others
