@@ -1,39 +1,36 @@
 -- What an offer comes to, by cases.
 use mathlib.Core.Path.{_≡_, ap, subst, sym, _∙_}
-use mathlib.Core.Bool.{Bool, true, false}
+use mathlib.Core.Bool.{Bool, true, false, not}
 use mathlib.Core.List.{List}
-use Prim.Native.Nat.{ℕ, _+_, _≤_, _<_}
-use native.Mathlib.Omega.{arith}
-use borrow.Author.Tests.{eq-eqb, ne-eqb, lt-ltb, le-ltb}
+use Prim.Native.Nat.{ℕ, _+_, _<_}
+use borrow.Author.Tests.{eq-eqb, ne-eqb}
 use lib.ListN.{set}
 use Rattle.foundation.specs.Tests.{choose}
 use Rattle.breaking.specs.Verdicts.{breaking}
 use Rattle.breaking.specs.declared.Verdicts.{Verdicts}
-use Rattle.kind_slots.specs.Stored.{kindPlace, kindListed, withKind}
-use Rattle.kind_slots.specs.Slots.{slotOf, rowIn, entryOf, Entered}
-use Rattle.kind_slots.proofs.Finding.{slots-find}
+use Rattle.kind_slots.specs.Stored.{kindListed, withKind}
+use Rattle.kind_slots.specs.Slots.{isFree, slotOf, entryOf, Entered}
+use Rattle.kind_slots.proofs.Finding.{slots-tell}
 use Rattle.kind_lists.specs.Listing.{withRow, Offering, Becomes, offering}
 use Rattle.kind_lists.specs.Closing.{rowsStanding}
 use Rattle.kind_lists.specs.declared.Progress.{Progress}
 use Rattle.kind_lists.specs.declared.Progress.the-variants as progress
 
-module _ (v : Verdicts) (limit n symbol left right : ℕ) (kind slots rows words : List ℕ) (e : Entered words n slots) {slot : ℕ} (searched : slot ≡ slotOf words slots kind) {row : ℕ} (found : row ≡ rowIn slots slot n) where
+module _ (v : Verdicts) (limit n symbol left right : ℕ) (kind slots rows words : List ℕ) (e : Entered words n slots) {slot : ℕ} (searched : slot ≡ slotOf words slots kind) {listed : Bool} (occupied : listed ≡ not (isFree slots slot)) where
   abbrev pub outcome : Offering
   outcome = offering v limit n symbol left right kind slots rows words
 
-  -- the slots tell the row that a search of the list would find
-  told : row ≡ kindPlace words n kind
-  told = found ∙ ap (λ (s : ℕ). rowIn slots s n) searched ∙ slots-find words n slots e kind
+  -- the slot tells what a search of the list would
+  told : listed ≡ kindListed words n kind
+  told = occupied ∙ ap (λ (s : ℕ). not (isFree slots s)) searched ∙ slots-tell words n slots e kind
 
-  pub offer-old : row < n → Becomes outcome (progress.Going n) slots rows words
+  pub offer-old : listed ≡ true → Becomes outcome (progress.Going n) slots rows words
   unfolding offering
-  offer-old l =
-      let old : kindListed words n kind ≡ true = lt-ltb (kindPlace words n kind) n (omega (arith, told)) in
-      record { answer = rw old; slots = rw old; rows = rw old; words = rw old }
+  offer-old t = let old = sym told ∙ t in record { answer = rw old; slots = rw old; rows = rw old; words = rw old }
 
-  module _ (l : n ≤ row) where
+  module _ (t : listed ≡ false) where
     new : kindListed words n kind ≡ false
-    new = le-ltb (kindPlace words n kind) n (omega (arith, told))
+    new = sym told ∙ t
 
     pub offer-full : n ≡ limit → Becomes outcome progress.Full slots rows words
     unfolding offering

@@ -9,7 +9,7 @@ use breaking::Verdicts;
 use breaking::breaks;
 use kind_slots::slots::enter_row;
 use kind_slots::slots::find_slot;
-use kind_slots::slots::row_in;
+use kind_slots::slots::is_occupied;
 use kind_slots::stored::store_kind;
 use tables::Symbol;
 
@@ -41,7 +41,7 @@ pub fn offer(
     ensures { λ r. ⌜ Becomes (offering verdicts limit count (symbol .0) left right (now (kind .entry)) (now (slots .entry)) (now (rows .entry)) (now (words .entry))) r (now (slots .exit)) (now (rows .exit)) (now (words .exit)) ⌝ }
 {
     let slot = find_slot(words, slots, kind);
-    if row_in(slots, slot, count) < count {
+    if is_occupied(slots, slot) {
         return Progress::Going(count);
     }
     let breaking = breaks(verdicts, kind);
@@ -54,5 +54,6 @@ pub fn offer(
     if breaking {
         return Progress::Breaks(count);
     }
-    Progress::Going(count + 1)
+    let grown = count + 1;
+    Progress::Going(grown)
 }

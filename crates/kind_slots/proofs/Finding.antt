@@ -1,21 +1,21 @@
 -- The slots of a list find what a search of the list finds, and stay its slots when a row is added.
 use mathlib.Core.Path.{_≡_, refl, ap, subst, sym, _∙_}
-use mathlib.Core.Bool.{Bool, true, false, _||_}
+use mathlib.Core.Bool.{Bool, true, false, not, _||_}
 use mathlib.Core.List.{List}
 use Prim.Native.Nat.{ℕ, zero, suc, _+_, _*_, _/_, _%_, _≤_, _<_}
 use native.Mathlib.Numerals.{add-one}
 use native.Mathlib.Omega.{arith}
 use native.Mathlib.Decide.{ℕ-discrete, decLt}
-use borrow.Author.Tests.{eq-eqb, ne-eqb, le-ltb, lt-ltb, ltb-false}
-use lib.Dec.{eqb, ltb}
+use borrow.Author.Tests.{ne-eqb, le-ltb, lt-ltb, ltb-false}
+use lib.Dec.{eqb}
 use lib.ListN.{length, getD, replicate, set}
 use Rattle.foundation.specs.Tests.{choose}
 use Rattle.foundation.specs.Search.{first, first-at, first-none, first-hit, first-before, first-clear}
-use Rattle.kind_slots.specs.Stored.{paddedKind, sameWords, sameKind, kindPlace, kindListed, withKind}
-use Rattle.kind_slots.specs.Slots.{kindSum, firstSlot, slotAfter, fingerprint, entryOf, rowOf, isFree, stepsToFree, entering, slotsOf, endsAt, slotOf, rowIn, occupied, Standing, Searchable, Entered}
-use Rattle.kind_slots.proofs.Same.{Alike, same-alike, alike-same, alike-sym, alike-trans, same-as, same-to, alike-sum, row-before-stored, row-stored}
-use Rattle.kind_slots.proofs.Steps.{steps-are, before-free, free-there}
-use Rattle.kind_slots.proofs.Placing.{entry-some, entry-row, entry-print, opposed, Placed, Names, Holding, comes-free, slots-hold}
+use Rattle.kind_slots.specs.Stored.{paddedKind, sameKind, kindPlace, kindListed, withKind}
+use Rattle.kind_slots.specs.Slots.{firstSlot, slotAfter, fingerprint, entryOf, rowOf, isFree, stepsToFree, entering, slotsOf, endsAt, slotOf, rowIn, Standing, Searchable, Entered}
+use Rattle.kind_slots.proofs.Same.{Alike, same-alike, same-as, same-to, alike-sum, row-before-stored, row-stored}
+use Rattle.kind_slots.proofs.Steps.{steps-are, free-there}
+use Rattle.kind_slots.proofs.Placing.{entry-some, entry-row, entry-print, opposed, Holding, comes-free, slots-hold}
 
 -- either test, where one is known
 pub or-known : {a : Bool} (b : Bool) → a ≡ true → (a || b) ≡ true
@@ -132,6 +132,18 @@ module _ (words : List ℕ) (n : ℕ) (slots : List ℕ) (h : Entered words n sl
             → choose (isFree slots (slotAfter (firstSlot kind) last)) n (rowOf (getD slots (slotAfter (firstSlot kind) last) 0)) ≡ kindPlace words n kind
         go true e = rw e (none e)
         go false e = rw e (sym (hit e .1))
+
+    -- so whether the slot at the end is occupied tells whether the kind is listed
+    pub slots-tell : not (isFree slots (slotOf words slots kind)) ≡ kindListed words n kind
+    unfolding slotOf
+    slots-tell = go (isFree slots (slotAfter (firstSlot kind) last)) refl
+      where
+        found : rowIn slots (slotAfter (firstSlot kind) last) n ≡ kindPlace words n kind
+        found = slots-find
+
+        go : (b : Bool) → isFree slots (slotAfter (firstSlot kind) last) ≡ b → not (isFree slots (slotAfter (firstSlot kind) last)) ≡ kindListed words n kind
+        go true e = rw e (sym (le-ltb (kindPlace words n kind) n (omega (arith, rw e at found))))
+        go false e = rw e (sym (lt-ltb (kindPlace words n kind) n (omega (arith, hit e .0, hit e .1))))
 
     -- for a kind that is not listed the search ends where its row enters
     pub ends-free : kindListed words n kind ≡ false → slotOf words slots kind ≡ slotAfter (firstSlot kind) free

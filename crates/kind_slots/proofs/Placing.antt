@@ -1,8 +1,8 @@
 -- Where the rows of a list stand in its slots: each some steps on from the first slot of its kind, behind occupied ones alone.
-use mathlib.Core.Path.{_≡_, refl, ap, subst, sym, _∙_}
+use mathlib.Core.Path.{_≡_, ap, subst, sym, _∙_}
 use mathlib.Core.Bool.{Bool, true, false}
 use mathlib.Core.List.{List}
-use Prim.Native.Nat.{ℕ, zero, suc, _+_, _*_, _/_, _%_, _≤_, _<_}
+use Prim.Native.Nat.{ℕ, zero, suc, _/_, _≤_, _<_}
 use native.Mathlib.Omega.{arith}
 use native.Mathlib.Decide.{ℕ-discrete, decLt}
 use borrow.Author.Tests.{eq-eqb, ne-eqb}
@@ -10,7 +10,7 @@ use lib.Dec.{eqb}
 use lib.ListN.{length, getD, set, replicate, length-set, length-replicate, getD-replicate, List·getD-eq-default}
 use lib.Seq.{getD-set-same, getD-set-other}
 use Rattle.kind_slots.specs.Stored.{paddedKind}
-use Rattle.kind_slots.specs.Slots.{kindSum, firstSlot, slotAfter, fingerprint, entryOf, rowOf, isFree, stepsToFree, entering, slotsOf, occupied}
+use Rattle.kind_slots.specs.Slots.{firstSlot, slotAfter, fingerprint, entryOf, rowOf, isFree, stepsToFree, entering, slotsOf, occupied}
 use Rattle.kind_slots.proofs.Steps.{before-free, free-there, free-comes}
 use Rattle.kind_slots.proofs.Free.{some-free, one-more, none-occupied}
 

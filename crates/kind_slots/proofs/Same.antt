@@ -1,14 +1,13 @@
 -- Kinds that are the same have the same five words, so the same sum; and a kind that is stored stands in its row, the others stay.
-use mathlib.Core.Path.{_≡_, refl, ap, sym, _∙_}
+use mathlib.Core.Path.{_≡_, refl, _∙_}
 use mathlib.Core.Bool.{Bool, true, false, _&&_}
 use mathlib.Core.List.{List}
 use Prim.Native.Nat.{ℕ, _+_, _*_, _≤_, _<_}
 use native.Mathlib.Omega.{arith}
-use borrow.Author.Tests.{eqb-true, eq-eqb}
-use lib.Dec.{eqb}
+use borrow.Author.Tests.{eqb-true}
 use lib.ListN.{length, getD, set, length-set}
 use lib.Seq.{getD-set-same, getD-set-other}
-use Rattle.kind_slots.specs.Stored.{paddedKind, sameWords, sameKind, withKind}
+use Rattle.kind_slots.specs.Stored.{paddedKind, sameWords, withKind}
 use Rattle.kind_slots.specs.Slots.{kindSum}
 
 both : (a b : Bool) → (a && b) ≡ true → (a ≡ true) × (b ≡ true)
@@ -37,23 +36,6 @@ unfolding sameWords
 same-alike a b t =
     let (h0, h1, h2, h3, h4) = all-five _ _ _ _ _ t in
     record { word0 = eqb-true _ _ h0; word1 = eqb-true _ _ h1; word2 = eqb-true _ _ h2; word3 = eqb-true _ _ h3; word4 = eqb-true _ _ h4 }
-
-pub alike-same : (a b : List ℕ) → Alike a b → sameWords a b ≡ true
-unfolding sameWords
-alike-same a b h = rw (eq-eqb _ _ (h .word0), eq-eqb _ _ (h .word1), eq-eqb _ _ (h .word2), eq-eqb _ _ (h .word3), eq-eqb _ _ (h .word4))
-
-pub alike-sym : {a b : List ℕ} → Alike a b → Alike b a
-alike-sym h = record { word0 = sym (h .word0); word1 = sym (h .word1); word2 = sym (h .word2); word3 = sym (h .word3); word4 = sym (h .word4) }
-
-pub alike-trans : {a b c : List ℕ} → Alike a b → Alike b c → Alike a c
-alike-trans h k =
-    record {
-      word0 = h .word0 ∙ k .word0;
-      word1 = h .word1 ∙ k .word1;
-      word2 = h .word2 ∙ k .word2;
-      word3 = h .word3 ∙ k .word3;
-      word4 = h .word4 ∙ k .word4;
-    }
 
 pub same-as : (a b c : List ℕ) → Alike b c → sameWords a b ≡ sameWords a c
 unfolding sameWords

@@ -2,16 +2,15 @@
 use mathlib.Core.Path.{_≡_, refl, ap, ap₂, subst, sym, _∙_}
 use mathlib.Core.Bool.{Bool, true, false, _||_}
 use mathlib.Core.List.{List}
-use Prim.Native.Nat.{ℕ, zero, suc, _+_, _-_, _*_, _^_, _/_, _%_, _≤_, _<_, min}
+use Prim.Native.Nat.{ℕ, zero, suc, _+_, _-_, _*_, _^_, _/_, _%_, _<_, min}
 use native.Mathlib.Omega.{arith}
 use native.Mathlib.Decide.{ℕ-discrete, decLt}
 use borrow.Author.Tests.{eq-eqb, ne-eqb, eqb-true}
 use lib.Bits.{bitAnd, and-step, and-zero-l, and-zero-r, and-block}
 use lib.Dec.{eqb}
-use lib.ListN.{length, getD}
-use Rattle.foundation.specs.Search.{first, first-at, first-before}
-use Rattle.foundation.specs.Tests.{choose}
-use Rattle.kind_slots.specs.Stored.{paddedKind, sameKind}
+use lib.ListN.{getD}
+use Rattle.foundation.specs.Search.{first-at, first-before}
+use Rattle.kind_slots.specs.Stored.{sameKind}
 use Rattle.kind_slots.specs.Slots.{kindSum, firstSlot, slotAfter, fingerprint, rowOf, isFree, stepsToFree, othersOf, stepsPast, endsAt, slotOf, rowIn, Standing, HalfFree, Searchable}
 use Rattle.kind_slots.proofs.Same.{same-alike, alike-sum}
 use Rattle.kind_slots.proofs.Steps.{free-there}
@@ -45,13 +44,6 @@ same-none words entry kind s e =
     ap₂ bitAnd parts others
     ∙ and-block 10 (fingerprint kind) (2 ^ 22 - 1 - fingerprint kind) (entry % 1024) 0 (omega arith) (omega arith)
     ∙ rw (no-common 22 (fingerprint kind) (print-few kind), and-zero-r (entry % 1024))
-
--- the row in a slot, by its entry
-pub row-none : (slots : List ℕ) (slot n entry : ℕ) → entry ≡ getD slots slot 0 → entry ≡ 0 → n ≡ rowIn slots slot n
-row-none slots slot n entry e z = rw (eq-eqb (getD slots slot 0) 0 (sym e ∙ z))
-
-pub row-some : (slots : List ℕ) (slot n entry row : ℕ) → entry ≡ getD slots slot 0 → (entry ≡ 0 → ⊥) → row ≡ rowOf entry → row ≡ rowIn slots slot n
-row-some slots slot n entry row e some q = rw (ne-eqb (getD slots slot 0) 0 (λ z. some (e ∙ z))) (q ∙ ap rowOf e)
 
 -- a second test that holds
 or-second : (a : Bool) {b : Bool} → b ≡ true → (a || b) ≡ true

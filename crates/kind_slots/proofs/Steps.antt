@@ -1,12 +1,11 @@
 -- Steps from slot to slot, and how far it is to one that is not occupied.
-use mathlib.Core.Path.{_≡_, refl, ap, subst, sym, _∙_}
-use mathlib.Core.Bool.{Bool, true, false}
+use mathlib.Core.Path.{_≡_, ap, _∙_}
+use mathlib.Core.Bool.{true, false}
 use mathlib.Core.List.{List}
-use Prim.Native.Nat.{ℕ, zero, suc, _+_, _-_, _%_, _≤_, _<_}
+use Prim.Native.Nat.{ℕ, _+_, _-_, _<_}
 use native.Mathlib.Omega.{arith}
 use native.Mathlib.Decide.{decLt}
-use lib.ListN.{getD}
-use Rattle.foundation.specs.Search.{first, first-at, first-le, first-hit, first-before, first-clear}
+use Rattle.foundation.specs.Search.{first, first-at, first-hit, first-before, first-clear}
 use Rattle.kind_slots.specs.Slots.{slotAfter, isFree, stepsToFree}
 
 -- every slot is some steps on

@@ -1,5 +1,5 @@
 -- The sum of five words: dropping the carry at each addition drops it from the whole.
-use mathlib.Core.Path.{_≡_, _∙_}
+use mathlib.Core.Path.{_≡_}
 use Prim.Native.Nat.{ℕ, _+_, _^_, _%_}
 use native.Mathlib.Omega.{arith}
 

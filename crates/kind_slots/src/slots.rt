@@ -1,9 +1,10 @@
 // The slots: where a kind enters them, the search for it, and the entry of its row.
 ghost use mathlib.Core.Path.{_≡_};
+ghost use mathlib.Core.Bool.{not};
 ghost use Prim.Native.Nat.{_+_, _-_, _*_, _^_, _%_, _<_, _≤_};
 ghost use lib.ListN.{getD, set, length};
 ghost use Rattle.kind_slots.specs.Stored.{sameKind};
-ghost use Rattle.kind_slots.specs.Slots.{kindSum, entryOf, rowOf, othersOf, stepsPast, slotOf, rowIn, HalfFree, Searchable};
+ghost use Rattle.kind_slots.specs.Slots.{kindSum, entryOf, rowOf, othersOf, isFree, stepsPast, slotOf, HalfFree, Searchable};
 use crate::stored::same_kind;
 
 // The number of a slot.
@@ -79,8 +80,10 @@ fn pass_others(slots: &[u32; 1024], from: usize, others: u32) -> usize
     ensures { λ r. ⌜ r ≡ from + stepsPast (now (slots .entry)) from others ⌝ }
 {
     let mut place: usize = from;
-    while entry_in(slots, slot_at(place)) & others != 0 {
+    let mut entry = entry_in(slots, slot_at(place));
+    while entry & others != 0 {
         place += 1;
+        entry = entry_in(slots, slot_at(place));
     }
     place
 }
@@ -104,16 +107,12 @@ pub fn find_slot(words: &[u64], slots: &[u32; 1024], kind: &[u64; 6]) -> Slot
     slot_at(place)
 }
 
-// The row in a slot, or `count` where it is not occupied.
-pub fn row_in(slots: &[u32; 1024], slot: Slot, count: usize) -> usize
+// Whether a row has entered a slot.
+pub fn is_occupied(slots: &[u32; 1024], slot: Slot) -> bool
     requires { ⌜ slot .0 < 1024 ⌝ }
-    ensures { λ r. ⌜ r ≡ rowIn (now (slots .entry)) (slot .0) count ⌝ }
+    ensures { λ r. ⌜ r ≡ not (isFree (now (slots .entry)) (slot .0)) ⌝ }
 {
-    let entry = entry_in(slots, slot);
-    if entry == 0 {
-        return count;
-    }
-    row_of(entry)
+    entry_in(slots, slot) != 0
 }
 
 // Row j, which has this kind, enters a slot.

@@ -1,9 +1,10 @@
-//! Times two builds of the proved library against each other: `compare FILE`. It prints a table of the checks of a script, and
-//! one of documents that some of its contracts judge and run: the least times of some questions by the new library and by the
+//! Times two builds of the proved library against each other: `compare FILE`. It prints a table of the checks of a script, one
+//! of checks of contracts whose kinds all start at one slot, and one of documents that some of its contracts judge and run: the least times of some questions by the new library and by the
 //! old one, and their ratio. If the old one is from before only documents with one root counted, its checks and judgements go by
 //! other rules: its answer stands behind the ratio where it is another.
 
 use goosedawn::contract::Contract;
+use goosedawn::counters::Counters;
 use goosedawn::engine::{Answer, Engine};
 use goosedawn::generator::{document, Random};
 use goosedawn::library::{Library, RUN_STACK};
@@ -106,10 +107,23 @@ fn running(new: Library, old: Library, contract: &Contract, numbers: &[u16]) -> 
     )
 }
 
+/// Checks of contracts whose kinds all start at one slot, the worst that slots can have.
+fn one_slot(new: Library, old: Library) {
+    println!("{:<16} {}", "kinds at slot", heads(NAMES));
+    let few = Counters { symbols: 2, rights: 4, lefts: 3, totals: 1, nodes: 4, idle: 1, common: 9 };
+    let many = Counters { rights: 7, lefts: 7, totals: 7, ..few };
+    for counters in [few, many, Counters { symbols: 4, nodes: 16, ..many }, Counters { idle: 10, common: 1, totals: 6, ..many }] {
+        let slot = counters.only_slot().expect("one slot");
+        println!("{slot:<16} {}", checking(new, old, &counters.contract(), 512));
+    }
+}
+
 fn compare() {
     let script = named_by_argument("compare");
     let (new, old) = (Library::default(), Library::old());
     print_checks(&script, NAMES, |contract, limit| checking(new, old, contract, limit));
+    println!();
+    one_slot(new, old);
     println!();
     println!("{:<16} {:>7}  {:<8} {}", "contract", "numbers", "question", heads(NAMES));
     for (label, contract, _) in checks(&script).iter().step_by(EVERY) {

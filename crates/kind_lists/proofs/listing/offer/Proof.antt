@@ -10,8 +10,8 @@ use Rattle.kind_lists.proofs.listing.offer.Tie as tie
 find-slot-requires : tie.Need-find-slot-requires
 find-slot-requires c κs = searchable _ _ _ (c .before .before .before .before .pre .3) (omega (arith, c .before .before .before .before .pre .0 .used, c .before .before .before .before .pre .0 .wordRoom))
 
-row-in-requires : tie.Need-row-in-requires
-row-in-requires c κs = omega (arith, c .before .find-slot .ensures, slot-few (c .before .before .before .before .before .before .args .words .now) (c .before .before .before .before .before .before .args .slots .now) (c .before .before .before .before .before .before .args .kind .now))
+is-occupied-requires : tie.Need-is-occupied-requires
+is-occupied-requires c κs = omega (arith, c .before .find-slot .ensures, slot-few (c .before .before .before .before .before .before .args .words .now) (c .before .before .before .before .before .before .args .slots .now) (c .before .before .before .before .before .before .args .kind .now))
 
 same-length : tie.Need-same-length
 same-length c = search needs
@@ -19,7 +19,7 @@ same-length c = search needs
 returns : tie.Need-returns
 returns c =
     let a = c .before .before .before .before .before .before .before .before .args in
-    offer-old (a .verdicts) (a .limit) (a .count) (a .symbol .0) (a .left) (a .right) (a .kind .now) (a .slots .now) (a .rows .now) (a .words .now) (c .before .before .before .before .before .before .before .before .pre .3) (c .before .before .before .find-slot .ensures) (c .before .row-in .ensures) (c .if1 .taken)
+    offer-old (a .verdicts) (a .limit) (a .count) (a .symbol .0) (a .left) (a .right) (a .kind .now) (a .slots .now) (a .rows .now) (a .words .now) (c .before .before .before .before .before .before .before .before .pre .3) (c .before .before .before .find-slot .ensures) (c .before .is-occupied .ensures) (c .if1 .taken)
 
 breaks-requires : tie.Need-breaks-requires
 breaks-requires c κs = search needs
@@ -30,7 +30,7 @@ same-length-2 c = search needs
 returns-2 : tie.Need-returns-2
 returns-2 c =
     let a = c .before .before .before .before .before .before .before .before .before .before .args in
-    offer-full (a .verdicts) (a .limit) (a .count) (a .symbol .0) (a .left) (a .right) (a .kind .now) (a .slots .now) (a .rows .now) (a .words .now) (c .before .before .before .before .before .before .before .before .before .before .pre .3) (c .before .before .before .before .before .find-slot .ensures) (c .before .before .before .row-in .ensures) (c .before .before .if1 .left) (c .if2 .taken)
+    offer-full (a .verdicts) (a .limit) (a .count) (a .symbol .0) (a .left) (a .right) (a .kind .now) (a .slots .now) (a .rows .now) (a .words .now) (c .before .before .before .before .before .before .before .before .before .before .pre .3) (c .before .before .before .before .before .find-slot .ensures) (c .before .before .before .is-occupied .ensures) (c .before .before .if1 .left) (c .if2 .taken)
 
 store-row-requires : tie.Need-store-row-requires
 store-row-requires c κs = search needs
@@ -50,10 +50,10 @@ same-length-4 c = search needs
 returns-3 : tie.Need-returns-3
 returns-3 c =
     let a = c .before .before .before .before .before .before .before .before .before .before .before .before .before .before .before .before .before .before .before .before .before .args in
-    offer-stored (a .verdicts) (a .limit) (a .count) (a .symbol .0) (a .left) (a .right) (a .kind .now) (a .slots .now) (a .rows .now) (a .words .now) (c .before .before .before .before .before .before .before .before .before .before .before .before .before .before .before .before .before .before .before .before .before .pre .3) (c .before .before .before .before .before .before .before .before .before .before .before .before .before .before .before .before .find-slot .ensures) (c .before .before .before .before .before .before .before .before .before .before .before .before .before .before .row-in .ensures) (c .before .before .before .before .before .before .before .before .before .before .before .before .before .if1 .left) (c .before .before .before .before .before .before .before .before .before .before .before .if2 .left) (c .before .before .before .before .before .before .before .before .before .before .before .before .breaks .ensures) true (c .if3 .taken) (c .before .enter-row .ensures) (c .before .before .before .before .before .before .before .before .before .store-row .ensures) (c .before .before .before .before .before .store-kind .ensures)
+    offer-stored (a .verdicts) (a .limit) (a .count) (a .symbol .0) (a .left) (a .right) (a .kind .now) (a .slots .now) (a .rows .now) (a .words .now) (c .before .before .before .before .before .before .before .before .before .before .before .before .before .before .before .before .before .before .before .before .before .pre .3) (c .before .before .before .before .before .before .before .before .before .before .before .before .before .before .before .before .find-slot .ensures) (c .before .before .before .before .before .before .before .before .before .before .before .before .before .before .is-occupied .ensures) (c .before .before .before .before .before .before .before .before .before .before .before .before .before .if1 .left) (c .before .before .before .before .before .before .before .before .before .before .before .if2 .left) (c .before .before .before .before .before .before .before .before .before .before .before .before .breaks .ensures) true (c .if3 .taken) (c .before .enter-row .ensures) (c .before .before .before .before .before .before .before .before .before .store-row .ensures) (c .before .before .before .before .before .store-kind .ensures)
 
-add-t16 : tie.Need-add-t16
-add-t16 c = search needs
+add-grown : tie.Need-add-grown
+add-grown c = search needs
 
 same-length-5 : tie.Need-same-length-5
 same-length-5 c = search needs
@@ -64,14 +64,14 @@ same-length-6 c = search needs
 returns-4 : tie.Need-returns-4
 returns-4 c =
     let a = c .before .before .before .before .before .before .before .before .before .before .before .before .before .before .before .before .before .before .before .before .before .args in
-    offer-stored (a .verdicts) (a .limit) (a .count) (a .symbol .0) (a .left) (a .right) (a .kind .now) (a .slots .now) (a .rows .now) (a .words .now) (c .before .before .before .before .before .before .before .before .before .before .before .before .before .before .before .before .before .before .before .before .before .pre .3) (c .before .before .before .before .before .before .before .before .before .before .before .before .before .before .before .before .find-slot .ensures) (c .before .before .before .before .before .before .before .before .before .before .before .before .before .before .row-in .ensures) (c .before .before .before .before .before .before .before .before .before .before .before .before .before .if1 .left) (c .before .before .before .before .before .before .before .before .before .before .before .if2 .left) (c .before .before .before .before .before .before .before .before .before .before .before .before .breaks .ensures) false (c .if3 .left) (c .before .enter-row .ensures) (c .before .before .before .before .before .before .before .before .before .store-row .ensures) (c .before .before .before .before .before .store-kind .ensures)
+    offer-stored (a .verdicts) (a .limit) (a .count) (a .symbol .0) (a .left) (a .right) (a .kind .now) (a .slots .now) (a .rows .now) (a .words .now) (c .before .before .before .before .before .before .before .before .before .before .before .before .before .before .before .before .before .before .before .before .before .pre .3) (c .before .before .before .before .before .before .before .before .before .before .before .before .before .before .before .before .find-slot .ensures) (c .before .before .before .before .before .before .before .before .before .before .before .before .before .before .is-occupied .ensures) (c .before .before .before .before .before .before .before .before .before .before .before .before .before .if1 .left) (c .before .before .before .before .before .before .before .before .before .before .before .if2 .left) (c .before .before .before .before .before .before .before .before .before .before .before .before .breaks .ensures) false (c .if3 .left) (c .before .enter-row .ensures) (c .before .before .before .before .before .before .before .before .before .store-row .ensures) (c .before .before .before .before .before .store-kind .ensures)
 
 pub offer-spec : {M : Type 1} → statement M
 offer-spec =
     tie.close
     (tie.spec
     find-slot-requires
-    row-in-requires
+    is-occupied-requires
     same-length
     returns
     breaks-requires
@@ -83,7 +83,7 @@ offer-spec =
     same-length-3
     same-length-4
     returns-3
-    add-t16
+    add-grown
     same-length-5
     same-length-6
     returns-4)

@@ -1,6 +1,5 @@
 -- The entry is the fingerprint over the row.
 use mathlib.Core.Path.{ap, _∙_}
-use mathlib.Core.List.{List}
 use Prim.Native.Nat.{ℕ, _+_, _-_, _*_, _%_}
 use lib.ListN.{set}
 use native.Mathlib.Omega.{arith}

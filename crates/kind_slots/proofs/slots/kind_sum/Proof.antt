@@ -1,6 +1,4 @@
 -- Dropping the carry at each addition drops it from the whole.
-use mathlib.Core.Path.{ap, _∙_}
-use Prim.Native.Nat.{ℕ, _+_, _^_, _%_}
 use Rattle.kind_slots.specs.Slots.{kindSum}
 use Rattle.kind_slots.proofs.Sums.{sum-of-sums}
 use borrow.Author.Needs.{needs}
