@@ -11,7 +11,7 @@ use lib.Dec.{eqb}
 use lib.ListN.{getD}
 use Rattle.foundation.specs.Search.{first-at, first-before}
 use Rattle.kind_slots.specs.Stored.{sameKind}
-use Rattle.kind_slots.specs.Slots.{kindSum, firstSlot, slotAfter, fingerprint, rowOf, isFree, stepsToFree, othersOf, stepsPast, endsAt, slotOf, rowIn, Standing, HalfFree, Searchable}
+use Rattle.kind_slots.specs.Slots.{kindSum, firstSlot, slotAfter, fingerprint, rowOf, isFree, stepsToFree, othersOf, stepsPast, endsAt, slotOf, Standing, HalfFree, Searchable}
 use Rattle.kind_slots.proofs.Same.{same-alike, alike-sum}
 use Rattle.kind_slots.proofs.Steps.{free-there}
 use Rattle.kind_slots.proofs.Placing.{opposed, comes-free}
