@@ -2,7 +2,7 @@
 use mathlib.Core.Path.{_≡_, refl, ap, subst, sym, _∙_}
 use mathlib.Core.Bool.{Bool, true, false, not, _||_}
 use mathlib.Core.List.{List}
-use Prim.Native.Nat.{ℕ, zero, suc, _+_, _*_, _/_, _%_, _≤_, _<_}
+use Prim.Native.Nat.{ℕ, zero, suc, _+_, _*_, _^_, _/_, _%_, _≤_, _<_}
 use native.Mathlib.Numerals.{add-one}
 use native.Mathlib.Omega.{arith}
 use native.Mathlib.Decide.{ℕ-discrete, decLt}
@@ -12,8 +12,8 @@ use lib.ListN.{length, getD, replicate, set}
 use Rattle.foundation.specs.Tests.{choose}
 use Rattle.foundation.specs.Search.{first, first-at, first-none, first-hit, first-before, first-clear}
 use Rattle.kind_slots.specs.Stored.{paddedKind, sameKind, kindPlace, kindListed, withKind}
-use Rattle.kind_slots.specs.Slots.{firstSlot, slotAfter, fingerprint, entryOf, rowOf, isFree, stepsToFree, entering, slotsOf, endsAt, slotOf, rowIn, Standing, Searchable, Entered}
-use Rattle.kind_slots.proofs.Same.{Alike, same-alike, same-as, same-to, alike-sum, row-before-stored, row-stored}
+use Rattle.kind_slots.specs.Slots.{firstSlot, slotAfter, fingerprint, entryOf, rowOf, isFree, stepsToFree, entering, slotsOf, endsAt, slotOf, rowIn, EntryStands, Searchable, Entered}
+use Rattle.kind_slots.proofs.Same.{Alike, same-alike, same-as, same-to, alike-sum, alike-weighted, row-before-stored, row-stored}
 use Rattle.kind_slots.proofs.Steps.{steps-are, free-there}
 use Rattle.kind_slots.proofs.Placing.{entry-some, entry-row, entry-print, opposed, Holding, comes-free, slots-hold}
 
@@ -42,7 +42,7 @@ module _ (words : List ℕ) (n : ℕ) (slots : List ℕ) (h : Entered words n sl
   pub searchable : 5 * n ≤ length words → Searchable words slots
   searchable room = record { half = record { long = held .long; few = omega (arith, held .counted, h .few) }; stands = stands }
     where
-      stands : (slot : ℕ) → isFree slots slot ≡ false → Standing words (getD slots slot 0)
+      stands : (slot : ℕ) → isFree slots slot ≡ false → EntryStands words (getD slots slot 0)
       stands slot e =
           let name = held .names slot e in
           let small : name .row < 512 = omega (arith, name .inside, h .few) in
@@ -50,7 +50,7 @@ module _ (words : List ℕ) (n : ℕ) (slots : List ℕ) (h : Entered words n sl
           record {
             inside = omega (arith, name .inside);
             printed =
-                ap (λ (x : ℕ). x / 1024) (name .is)
+                ap (λ (x : ℕ). x / 2 ^ 10) (name .is)
                 ∙ entry-print (paddedKind words (name .row)) (name .row) small
                 ∙ ap (λ (j : ℕ). fingerprint (paddedKind words j)) (sym row);
           }
@@ -146,9 +146,9 @@ module _ (words : List ℕ) (n : ℕ) (slots : List ℕ) (h : Entered words n sl
         go false e = rw e (sym (lt-ltb (kindPlace words n kind) n (omega (arith, hit e .0, hit e .1))))
 
     -- for a kind that is not listed the search ends where its row enters
-    pub ends-free : kindListed words n kind ≡ false → slotOf words slots kind ≡ slotAfter (firstSlot kind) free
+    pub ends-where-entered : kindListed words n kind ≡ false → slotOf words slots kind ≡ slotAfter (firstSlot kind) free
     unfolding slotOf
-    ends-free t = go (isFree slots (slotAfter (firstSlot kind) last)) refl
+    ends-where-entered t = go (isFree slots (slotAfter (firstSlot kind) last)) refl
       where
         go : (b : Bool) → isFree slots (slotAfter (firstSlot kind) last) ≡ b → slotAfter (firstSlot kind) last ≡ slotAfter (firstSlot kind) free
         go true e =
@@ -159,7 +159,7 @@ module _ (words : List ℕ) (n : ℕ) (slots : List ℕ) (h : Entered words n sl
 -- the slots of a list depend on its rows alone
 entering-alike : (slots a b : List ℕ) (row : ℕ) → Alike a b → entering slots a row ≡ entering slots b row
 unfolding entering
-entering-alike slots a b row h = rw (alike-sum a b h)
+entering-alike slots a b row h = rw (alike-sum a b h, alike-weighted a b h)
 
 slots-agree : (a b : List ℕ) (n : ℕ) → ((j : ℕ) → j < n → Alike (paddedKind a j) (paddedKind b j)) → slotsOf a n ≡ slotsOf b n
 unfolding slotsOf
@@ -202,7 +202,7 @@ one-entered words n slots kind h few room t =
 
     are : set slots (slotOf words slots kind) (entryOf kind n) ≡ slotsOf (withKind words n kind) (suc n)
     are =
-        ap (λ (s : ℕ). set slots s (entryOf kind n)) (ends-free words n slots h kind t)
+        ap (λ (s : ℕ). set slots s (entryOf kind n)) (ends-where-entered words n slots h kind t)
         ∙ sym (entering-alike slots _ kind n (row-stored words n kind room))
         ∙ ap (λ (l : List ℕ). entering l (paddedKind (withKind words n kind) n) n)
         (h .slotsAre ∙ sym (slots-agree (withKind words n kind) words n (λ j l. row-before-stored words n kind room j l)))

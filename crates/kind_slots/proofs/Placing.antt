@@ -2,7 +2,7 @@
 use mathlib.Core.Path.{_≡_, ap, subst, sym, _∙_}
 use mathlib.Core.Bool.{Bool, true, false}
 use mathlib.Core.List.{List}
-use Prim.Native.Nat.{ℕ, zero, suc, _/_, _≤_, _<_}
+use Prim.Native.Nat.{ℕ, zero, suc, _^_, _/_, _≤_, _<_}
 use native.Mathlib.Omega.{arith}
 use native.Mathlib.Decide.{ℕ-discrete, decLt}
 use borrow.Author.Tests.{eq-eqb, ne-eqb}
@@ -21,7 +21,7 @@ entry-some kind row e = omega arith
 pub entry-row : (kind : List ℕ) (row : ℕ) → row < 512 → rowOf (entryOf kind row) ≡ row
 entry-row kind row h = omega arith
 
-pub entry-print : (kind : List ℕ) (row : ℕ) → row < 512 → entryOf kind row / 1024 ≡ fingerprint kind
+pub entry-print : (kind : List ℕ) (row : ℕ) → row < 512 → entryOf kind row / 2 ^ 10 ≡ fingerprint kind
 entry-print kind row h = omega arith
 
 -- true is not false

@@ -1,4 +1,4 @@
--- Kinds that are the same have the same five words, so the same sum; and a kind that is stored stands in its row, the others stay.
+-- Kinds that are the same have the same five words, so the same sums; and a kind that is stored stands in its row, the others stay.
 use mathlib.Core.Path.{_≡_, refl, _∙_}
 use mathlib.Core.Bool.{Bool, true, false, _&&_}
 use mathlib.Core.List.{List}
@@ -8,7 +8,7 @@ use borrow.Author.Tests.{eqb-true}
 use lib.ListN.{length, getD, set, length-set}
 use lib.Seq.{getD-set-same, getD-set-other}
 use Rattle.kind_slots.specs.Stored.{paddedKind, sameWords, withKind}
-use Rattle.kind_slots.specs.Slots.{kindSum}
+use Rattle.kind_slots.specs.Slots.{kindSum, weightedSum}
 
 both : (a b : Bool) → (a && b) ≡ true → (a ≡ true) × (b ≡ true)
 both true true e = (refl, refl)
@@ -48,6 +48,10 @@ same-to a b c h = rw (h .word0, h .word1, h .word2, h .word3, h .word4)
 pub alike-sum : (a b : List ℕ) → Alike a b → kindSum a ≡ kindSum b
 unfolding kindSum
 alike-sum a b h = rw (h .word0, h .word1, h .word2, h .word3, h .word4)
+
+pub alike-weighted : (a b : List ℕ) → Alike a b → weightedSum a ≡ weightedSum b
+unfolding weightedSum
+alike-weighted a b h = rw (h .word0, h .word1, h .word2, h .word3, h .word4)
 
 module _ (words : List ℕ) (n : ℕ) (kind : List ℕ) (room : 5 * n + 5 ≤ length words) where
   -- the words after one, two, three and four stores

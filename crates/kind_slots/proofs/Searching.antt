@@ -11,8 +11,8 @@ use lib.Dec.{eqb}
 use lib.ListN.{getD}
 use Rattle.foundation.specs.Search.{first-at, first-before}
 use Rattle.kind_slots.specs.Stored.{sameKind}
-use Rattle.kind_slots.specs.Slots.{kindSum, firstSlot, slotAfter, fingerprint, rowOf, isFree, stepsToFree, othersOf, stepsPast, endsAt, slotOf, Standing, HalfFree, Searchable}
-use Rattle.kind_slots.proofs.Same.{same-alike, alike-sum}
+use Rattle.kind_slots.specs.Slots.{weightedSum, printOf, firstSlot, slotAfter, fingerprint, rowOf, isFree, stepsToFree, othersOf, stepsPast, endsAt, slotOf, EntryStands, HalfFree, Searchable}
+use Rattle.kind_slots.proofs.Same.{same-alike, alike-weighted}
 use Rattle.kind_slots.proofs.Steps.{free-there}
 use Rattle.kind_slots.proofs.Placing.{opposed, comes-free}
 use Rattle.kind_slots.proofs.Finding.{or-known, or-other}
@@ -30,20 +30,20 @@ print-few : (kind : List ℕ) → fingerprint kind < 2 ^ 22
 print-few kind = omega arith
 
 -- the other bits, as code comes to them
-pub others-are : (kind : List ℕ) {sum print others : ℕ} → sum ≡ kindSum kind → print ≡ sum % 2039 + (2047 - sum % 2039) * 2048 → others ≡ othersOf print
+pub others-are : (kind : List ℕ) {sum print others : ℕ} → sum ≡ weightedSum kind → print ≡ printOf sum → others ≡ othersOf print
     → others ≡ othersOf (fingerprint kind)
-others-are kind p q r = r ∙ ap othersOf (q ∙ ap (λ (sum : ℕ). sum % 2039 + (2047 - sum % 2039) * 2048) p)
+others-are kind p q r = r ∙ ap othersOf (q ∙ ap printOf p)
 
 -- an entry of this kind has none of them
-same-none : (words : List ℕ) (entry : ℕ) (kind : List ℕ) → Standing words entry → sameKind words (rowOf entry) kind ≡ true
+same-none : (words : List ℕ) (entry : ℕ) (kind : List ℕ) → EntryStands words entry → sameKind words (rowOf entry) kind ≡ true
     → bitAnd entry (othersOf (fingerprint kind)) ≡ 0
 same-none words entry kind s e =
-    let print : entry / 1024 ≡ fingerprint kind = s .printed ∙ ap (λ (sum : ℕ). sum % 2039 + (2047 - sum % 2039) * 2048) (alike-sum _ _ (same-alike _ _ e)) in
-    let parts : entry ≡ fingerprint kind * 2 ^ 10 + entry % 1024 = omega arith in
+    let print : entry / 2 ^ 10 ≡ fingerprint kind = s .printed ∙ ap printOf (alike-weighted _ _ (same-alike _ _ e)) in
+    let parts : entry ≡ fingerprint kind * 2 ^ 10 + entry % 2 ^ 10 = omega arith in
     let others : othersOf (fingerprint kind) ≡ (2 ^ 22 - 1 - fingerprint kind) * 2 ^ 10 + 0 = omega arith in
     ap₂ bitAnd parts others
-    ∙ and-block 10 (fingerprint kind) (2 ^ 22 - 1 - fingerprint kind) (entry % 1024) 0 (omega arith) (omega arith)
-    ∙ rw (no-common 22 (fingerprint kind) (print-few kind), and-zero-r (entry % 1024))
+    ∙ and-block 10 (fingerprint kind) (2 ^ 22 - 1 - fingerprint kind) (entry % 2 ^ 10) 0 (omega arith) (omega arith)
+    ∙ rw (no-common 22 (fingerprint kind) (print-few kind), and-zero-r (entry % 2 ^ 10))
 
 -- a second test that holds
 or-second : (a : Bool) {b : Bool} → b ≡ true → (a || b) ≡ true
@@ -116,18 +116,18 @@ module _ (slots : List ℕ) (half : HalfFree slots) (from others : ℕ) where
 
 module _ (words slots kind : List ℕ) where
   -- none of the first k slots of the search ends it
-  abbrev pub Passed : ℕ → Type 0
-  Passed k = (j : ℕ) → j < k → endsAt words slots kind (slotAfter (firstSlot kind) j) ≡ false
+  abbrev pub NoneEnds : ℕ → Type 0
+  NoneEnds k = (j : ℕ) → j < k → endsAt words slots kind (slotAfter (firstSlot kind) j) ≡ false
 
   -- the search stands at a place, and has read the entry there
-  pub record At (place entry : ℕ) : Type 0 where
+  pub record Reached (place entry : ℕ) : Type 0 where
     pub steps : ℕ
     pub placed : place ≡ firstSlot kind + steps
     pub read : entry ≡ getD slots (slotAfter (firstSlot kind) steps) 0
-    pub passed : Passed steps
+    pub passed : NoneEnds steps
 
 module _ (words slots kind : List ℕ) (s : Searchable words slots) where
-  pub passed-few : (k : ℕ) → Passed words slots kind k → k < 1024
+  pub passed-few : (k : ℕ) → NoneEnds words slots kind k → k < 1024
   passed-few k passed = go (decLt k 1024)
     where
       free : stepsToFree slots (firstSlot kind) < 1024
@@ -138,7 +138,7 @@ module _ (words slots kind : List ℕ) (s : Searchable words slots) where
       go (no l) = absurd (opposed (or-known _ (free-there slots (firstSlot kind) free)) (passed (stepsToFree slots (firstSlot kind)) (omega (arith, free))))
 
   -- the search ends
-  ends-here : (k : ℕ) → Passed words slots kind k → endsAt words slots kind (slotAfter (firstSlot kind) k) ≡ true → slotAfter (firstSlot kind) k ≡ slotOf words slots kind
+  ends-here : (k : ℕ) → NoneEnds words slots kind k → endsAt words slots kind (slotAfter (firstSlot kind) k) ≡ true → slotAfter (firstSlot kind) k ≡ slotOf words slots kind
   unfolding slotOf
   ends-here k passed e =
       ap (slotAfter (firstSlot kind)) (sym (first-at (λ j. endsAt words slots kind (slotAfter (firstSlot kind) j)) 1024 k (passed-few k passed) passed e))
@@ -153,9 +153,9 @@ module _ (words slots kind : List ℕ) (s : Searchable words slots) where
       go false e false q = refl
 
   -- so many slots that do not end it are passed at once
-  passed-on : (k d from others : ℕ) → Passed words slots kind k → from ≡ firstSlot kind + k → others ≡ othersOf (fingerprint kind)
+  passed-on : (k d from others : ℕ) → NoneEnds words slots kind k → from ≡ firstSlot kind + k → others ≡ othersOf (fingerprint kind)
       → Past slots from others d
-      → Passed words slots kind (k + d)
+      → NoneEnds words slots kind (k + d)
   passed-on k d from others passed p q past j l = go (decLt j k)
     where
       go : Dec (j < k) → endsAt words slots kind (slotAfter (firstSlot kind) j) ≡ false
@@ -167,9 +167,9 @@ module _ (words slots kind : List ℕ) (s : Searchable words slots) where
           (ap (λ (o : ℕ). eqb (bitAnd (getD slots (slotAfter from (j - k)) 0) o) 0) (sym q) ∙ past (j - k) (omega arith)))
 
   -- the search comes to the next slot that may end it
-  pub at-past : {from : ℕ} (k : ℕ) → Passed words slots kind k → from ≡ firstSlot kind + k
+  pub at-past : {from : ℕ} (k : ℕ) → NoneEnds words slots kind k → from ≡ firstSlot kind + k
       → {others place slot entry : ℕ} → others ≡ othersOf (fingerprint kind) → place ≡ from + stepsPast slots from others → slot ≡ place % 1024 → entry ≡ getD slots slot 0
-      → At words slots kind place entry
+      → Reached words slots kind place entry
   at-past {from} k passed p {others} q r t e =
       record {
         steps = k + stepsPast slots from others;
@@ -181,10 +181,10 @@ module _ (words slots kind : List ℕ) (s : Searchable words slots) where
   -- .. the first one
   pub at-first : {from others place slot entry : ℕ} → from ≡ firstSlot kind → others ≡ othersOf (fingerprint kind) → place ≡ from + stepsPast slots from others → slot ≡ place % 1024
       → entry ≡ getD slots slot 0
-      → At words slots kind place entry
+      → Reached words slots kind place entry
   at-first p = at-past 0 (λ j l. absurd (omega arith)) (omega arith)
 
-  module _ {place entry : ℕ} (at : At words slots kind place entry) where
+  module _ {place entry : ℕ} (at : Reached words slots kind place entry) where
     same-slot : place % 1024 ≡ slotAfter (firstSlot kind) (at .steps)
     same-slot = omega (arith, at .placed)
 
@@ -194,22 +194,22 @@ module _ (words slots kind : List ℕ) (s : Searchable words slots) where
     occupied-here : (entry ≡ 0 → ⊥) → isFree slots (slotAfter (firstSlot kind) (at .steps)) ≡ false
     occupied-here some = ne-eqb _ 0 (λ z. some (at .read ∙ z))
 
-    pub at-stands : (entry ≡ 0 → ⊥) → Standing words entry
-    at-stands some = subst (λ (x : ℕ). Standing words x) (sym (at .read)) (s .stands (slotAfter (firstSlot kind) (at .steps)) (occupied-here some))
+    pub at-stands : (entry ≡ 0 → ⊥) → EntryStands words entry
+    at-stands some = subst (λ (x : ℕ). EntryStands words x) (sym (at .read)) (s .stands (slotAfter (firstSlot kind) (at .steps)) (occupied-here some))
 
     -- the search ends at a row of this kind
-    pub ends-row : sameKind words (rowOf entry) kind ≡ true → place % 1024 ≡ slotOf words slots kind
-    ends-row e =
+    pub ends-at-row : sameKind words (rowOf entry) kind ≡ true → place % 1024 ≡ slotOf words slots kind
+    ends-at-row e =
         same-slot
         ∙ ends-here (at .steps) (at .passed)
         (or-second (isFree slots (slotAfter (firstSlot kind) (at .steps))) (sym (ap (λ (x : ℕ). sameKind words (rowOf x) kind) (at .read)) ∙ e))
 
     -- .. or at an unoccupied slot
-    pub ends-free : entry ≡ 0 → place % 1024 ≡ slotOf words slots kind
-    ends-free z = same-slot ∙ ends-here (at .steps) (at .passed) (or-known _ (eq-eqb _ 0 (sym (at .read) ∙ z)))
+    pub ends-at-free : entry ≡ 0 → place % 1024 ≡ slotOf words slots kind
+    ends-at-free z = same-slot ∙ ends-here (at .steps) (at .passed) (or-known _ (eq-eqb _ 0 (sym (at .read) ∙ z)))
 
     -- or goes on behind a row of another kind
-    pub passed-row : (entry ≡ 0 → ⊥) → sameKind words (rowOf entry) kind ≡ false → Passed words slots kind (at .steps + 1)
+    pub passed-row : (entry ≡ 0 → ⊥) → sameKind words (rowOf entry) kind ≡ false → NoneEnds words slots kind (at .steps + 1)
     passed-row some e j l = go (ℕ-discrete j (at .steps))
       where
         go : Dec (j ≡ at .steps) → endsAt words slots kind (slotAfter (firstSlot kind) j) ≡ false
@@ -218,5 +218,5 @@ module _ (words slots kind : List ℕ) (s : Searchable words slots) where
 
     pub at-next : (entry ≡ 0 → ⊥) → sameKind words (rowOf entry) kind ≡ false
         → {others place′ slot entry′ : ℕ} → others ≡ othersOf (fingerprint kind) → place′ ≡ place + 1 + stepsPast slots (place + 1) others → slot ≡ place′ % 1024 → entry′ ≡ getD slots slot 0
-        → At words slots kind place′ entry′
+        → Reached words slots kind place′ entry′
     at-next some e = at-past (at .steps + 1) (passed-row some e) (omega (arith, at .placed))

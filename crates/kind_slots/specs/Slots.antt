@@ -16,26 +16,35 @@ use Rattle.kind_slots.specs.Stored.{paddedKind, sameKind}
 unfoldable pub kindSum : List ℕ → ℕ
 kindSum kind = (getD kind 0 0 + getD kind 1 0 + getD kind 2 0 + getD kind 3 0 + getD kind 4 0) % 2 ^ 64
 
--- "entered at .. modulo 1,024", "going on to the next slot, after the last the first": the slot so many steps on
+-- "entered at .. modulo 1,024"
 abbrev pub firstSlot : List ℕ → ℕ
 firstSlot kind = kindSum kind % 1024
 
+-- "going on to the next slot, after the last the first": the slot so many steps on
 abbrev pub slotAfter : (slot steps : ℕ) → ℕ
 slotAfter slot steps = (slot + steps) % 1024
 
--- a number of eleven bits, and above it what it lacks to 2,047: so no fingerprint has all the bits of another
-abbrev pub fingerprint : List ℕ → ℕ
-fingerprint kind = kindSum kind % 2039 + (2047 - kindSum kind % 2039) * 2048
+-- a number of eleven bits, and above it what it lacks to 2,047: so no fingerprint has all the bits of another. 2,039 is the greatest prime
+-- below 2,048, so every bit of the sum counts.
+abbrev pub printOf : ℕ → ℕ
+printOf sum = sum % 2039 + (2047 - sum % 2039) * 2048
 
--- an entry, what is read of it, and the bits that no entry with this fingerprint has
+-- the words added with weights, so that kinds of one sum are told apart too
+unfoldable pub weightedSum : List ℕ → ℕ
+weightedSum kind = (5 * getD kind 0 0 + 4 * getD kind 1 0 + 3 * getD kind 2 0 + 2 * getD kind 3 0 + getD kind 4 0) % 2 ^ 64
+
+abbrev pub fingerprint : List ℕ → ℕ
+fingerprint kind = printOf (weightedSum kind)
+
+-- an entry, whose low ten bits are the row; what is read of it; and the bits that no entry with this fingerprint has
 abbrev pub entryOf : List ℕ → ℕ → ℕ
-entryOf kind row = fingerprint kind * 1024 + row
+entryOf kind row = fingerprint kind * 2 ^ 10 + row
 
 abbrev pub rowOf : ℕ → ℕ
-rowOf entry = entry % 1024
+rowOf entry = entry % 2 ^ 10
 
 abbrev pub othersOf : ℕ → ℕ
-othersOf print = (2 ^ 22 - 1 - print) * 1024
+othersOf print = (2 ^ 22 - 1 - print) * 2 ^ 10
 
 -- "while occupied": how many steps it is from a slot to the first that is not occupied
 abbrev pub isFree : List ℕ → ℕ → Bool
@@ -74,9 +83,9 @@ occupied [] = 0
 occupied (entry ∷ slots) = choose (eqb entry 0) 0 1 + occupied slots
 
 -- the row of an entry stands in the words, under its kind's fingerprint
-pub record Standing (words : List ℕ) (entry : ℕ) : Type 0 where
+pub record EntryStands (words : List ℕ) (entry : ℕ) : Type 0 where
   pub inside : 5 * rowOf entry + 5 ≤ length words
-  pub printed : entry / 1024 ≡ fingerprint (paddedKind words (rowOf entry))
+  pub printed : entry / 2 ^ 10 ≡ fingerprint (paddedKind words (rowOf entry))
 
 -- there are 1,024 slots, of which at most half are occupied
 pub record HalfFree (slots : List ℕ) : Type 0 where
@@ -86,7 +95,7 @@ pub record HalfFree (slots : List ℕ) : Type 0 where
 -- what a search by the slots asks: so one comes that is not occupied; and the rows in the others stand in the words
 pub record Searchable (words slots : List ℕ) : Type 0 where
   pub half : HalfFree slots
-  pub stands : (slot : ℕ) → isFree slots slot ≡ false → Standing words (getD slots slot 0)
+  pub stands : (slot : ℕ) → isFree slots slot ≡ false → EntryStands words (getD slots slot 0)
 
 -- the slots are those of a list of n distinct kinds, at most 512
 pub record Entered (words : List ℕ) (n : ℕ) (slots : List ℕ) : Type 0 where

@@ -30,7 +30,7 @@ sameKind words j kind = sameWords (paddedKind words j) kind
 unfoldable pub kindPlace : List ℕ → ℕ → List ℕ → ℕ
 kindPlace words n kind = first (λ j. sameKind words j kind) n
 
--- "a kind not yet listed"
+-- a kind is listed; "a kind not yet listed" is the other case
 abbrev pub kindListed : List ℕ → ℕ → List ℕ → Bool
 kindListed words n kind = ltb (kindPlace words n kind) n
 

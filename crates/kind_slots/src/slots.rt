@@ -4,7 +4,7 @@ ghost use mathlib.Core.Bool.{not};
 ghost use Prim.Native.Nat.{_+_, _-_, _*_, _^_, _%_, _<_, _≤_};
 ghost use lib.ListN.{getD, set, length};
 ghost use Rattle.kind_slots.specs.Stored.{sameKind};
-ghost use Rattle.kind_slots.specs.Slots.{kindSum, entryOf, rowOf, othersOf, isFree, stepsPast, slotOf, HalfFree, Searchable};
+ghost use Rattle.kind_slots.specs.Slots.{kindSum, weightedSum, printOf, entryOf, rowOf, othersOf, isFree, stepsPast, slotOf, HalfFree, Searchable};
 use crate::stored::same_kind;
 
 // The number of a slot.
@@ -27,9 +27,20 @@ fn kind_sum(kind: &[u64; 6]) -> u64
     plus(four, kind[4])
 }
 
-// The fingerprint of a kind with this sum.
+// The five words of a kind, added with weights: the sum of the sums so far.
+fn weighted_sum(kind: &[u64; 6]) -> u64
+    ensures { λ r. ⌜ r ≡ weightedSum (now (kind .entry)) ⌝ }
+{
+    let two = plus(kind[0], kind[1]);
+    let three = plus(two, kind[2]);
+    let four = plus(three, kind[3]);
+    let five = plus(four, kind[4]);
+    plus(plus(plus(plus(kind[0], two), three), four), five)
+}
+
+// The fingerprint of a kind with this weighted sum.
 fn print_of(sum: u64) -> u32
-    ensures { λ r. ⌜ r ≡ sum % 2039 + (2047 - sum % 2039) * 2048 ⌝ }
+    ensures { λ r. ⌜ r ≡ printOf sum ⌝ }
 {
     let low = (sum % 2039) as u32;
     low + (2047 - low) * 2048
@@ -76,7 +87,7 @@ fn is_of_kind(words: &[u64], entry: u32, kind: &[u64; 6]) -> bool
 
 // The first place from a place on whose slot has none of these bits.
 fn pass_others(slots: &[u32; 1024], from: usize, others: u32) -> usize
-    requires { ⌜ HalfFree (now slots) × (from < 4096) ⌝ }
+    requires { ⌜ HalfFree (now slots) × (from < 2048) ⌝ }
     ensures { λ r. ⌜ r ≡ from + stepsPast (now (slots .entry)) from others ⌝ }
 {
     let mut place: usize = from;
@@ -94,7 +105,7 @@ pub fn find_slot(words: &[u64], slots: &[u32; 1024], kind: &[u64; 6]) -> Slot
     ensures { λ r. ⌜ r .0 ≡ slotOf (now (words .entry)) (now (slots .entry)) (now (kind .entry)) ⌝ }
 {
     let sum = kind_sum(kind);
-    let others = others_of(print_of(sum));
+    let others = others_of(print_of(weighted_sum(kind)));
     let mut place: usize = pass_others(slots, (sum % 1024) as usize, others);
     let mut entry = entry_in(slots, slot_at(place));
     while entry != 0 {
@@ -121,6 +132,6 @@ pub fn enter_row(slots: &mut [u32; 1024], slot: Slot, kind: &[u64; 6], j: usize)
     ensures { λ _. ⌜ now (slots .exit) ≡ set (now (slots .entry)) (slot .0) (entryOf (now (kind .entry)) j) ⌝ }
 {
     let at = slot.0;
-    let print = print_of(kind_sum(kind));
+    let print = print_of(weighted_sum(kind));
     slots[at] = print * 1024 + j as u32;
 }

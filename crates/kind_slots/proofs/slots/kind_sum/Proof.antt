@@ -1,6 +1,6 @@
 -- Dropping the carry at each addition drops it from the whole.
 use Rattle.kind_slots.specs.Slots.{kindSum}
-use Rattle.kind_slots.proofs.Sums.{sum-of-sums}
+use Rattle.kind_slots.proofs.Sums.{sum-of-words}
 use borrow.Author.Needs.{needs}
 use Rattle.kind_slots.proofs.slots.kind_sum.Statement.{statement}
 use Rattle.kind_slots.proofs.slots.kind_sum.Tie as tie
@@ -34,7 +34,7 @@ plus-requires-4 c κs = search needs
 
 returns : tie.Need-returns
 unfolding kindSum
-returns c = sum-of-sums _ _ _ _ _ (c .before .before .before .before .before .before .plus .ensures) (c .before .before .before .before .plus2 .ensures) (c .before .before .plus3 .ensures) (c .plus4 .ensures)
+returns c = sum-of-words _ _ _ _ _ (c .before .before .before .before .before .before .plus .ensures) (c .before .before .before .before .plus2 .ensures) (c .before .before .plus3 .ensures) (c .plus4 .ensures)
 
 pub kind-sum-spec : {M : Type 1} → statement M
 kind-sum-spec =
