@@ -1,7 +1,8 @@
 //! Times two builds of the proved library against each other: `compare FILE`. It prints a table of the checks of a script, one
-//! of checks of contracts whose kinds all start at one slot, and one of documents that some of its contracts judge and run: the least times of some questions by the new library and by the
-//! old one, and their ratio. If the old one is from before only documents with one root counted, its checks and judgements go by
-//! other rules: its answer stands behind the ratio where it is another.
+//! of checks of contracts whose kinds all start at one slot, and one of documents that some contracts of the script judge and
+//! run: the least times of some questions by the new library and by the old one, and their ratio. If the old one is from before
+//! only documents with one root counted, its checks and judgements go by other rules: its answer stands behind the ratio where
+//! it is another.
 
 use goosedawn::contract::Contract;
 use goosedawn::counters::Counters;
@@ -107,14 +108,17 @@ fn running(new: Library, old: Library, contract: &Contract, numbers: &[u16]) -> 
     )
 }
 
-/// Checks of contracts whose kinds all start at one slot, the worst that slots can have.
+/// Checks of contracts whose kinds all start at one slot, so that a search passes many.
 fn one_slot(new: Library, old: Library) {
-    println!("{:<16} {}", "kinds at slot", heads(NAMES));
+    println!("{:>4} {:>7} {:>6}  {}", "slot", "symbols", "nodes", heads(NAMES));
     let few = Counters { symbols: 2, rights: 4, lefts: 3, totals: 1, nodes: 4, idle: 1, common: 9 };
     let many = Counters { rights: 7, lefts: 7, totals: 7, ..few };
-    for counters in [few, many, Counters { symbols: 4, nodes: 16, ..many }, Counters { idle: 10, common: 1, totals: 6, ..many }] {
+    let longer = Counters { symbols: 4, nodes: 16, ..many };
+    let early = Counters { idle: 10, common: 1, totals: 6, ..many };
+    for counters in [few, many, longer, early] {
+        let Counters { symbols, nodes, .. } = counters;
         let slot = counters.only_slot().expect("one slot");
-        println!("{slot:<16} {}", checking(new, old, &counters.contract(), 512));
+        println!("{slot:>4} {symbols:>7} {nodes:>6}  {}", checking(new, old, &counters.contract(), 512));
     }
 }
 
