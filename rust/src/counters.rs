@@ -1,4 +1,4 @@
-//! Contracts that count, with as many kinds and nodes as wanted, and with all their kinds at one slot.
+//! Contracts that count, with as many kinds and nodes as wanted and, if wanted, with all their kinds at one slot.
 
 use crate::contract::Contract;
 
@@ -20,8 +20,8 @@ pub struct Counters {
 
 impl Counters {
     /// A check enters a kind into its slots at the sum of the kind's words modulo 1,024. With ten or more idle and common
-    /// states the counts are above that, and all kinds have the one fact that the procedure has an output of state 0: so all
-    /// kinds start at one slot, whose number this is.
+    /// states the bits of the counts are above the low ten, and all kinds have the one fact that the procedure has an output of
+    /// state 0: so all kinds start at one slot, whose number this is.
     pub fn only_slot(&self) -> Option<usize> {
         let common = (1 << self.common) - 1;
         (self.idle + self.common >= 10).then_some(((common << self.idle) + 1) % 1024)

@@ -8,7 +8,7 @@
 //! * [`script`]: scripts of questions, played on any engine.
 //! * [`generator`]: random contracts, documents, rows, pairs of buffers and pairs of output types, valid and damaged, from
 //!   a seed.
-//! * [`counters`]: contracts that count, with as many kinds as wanted, and with all of them at one slot.
+//! * [`counters`]: contracts that count, with as many kinds as wanted, or with all of them at one slot.
 //! * [`comparison`]: two engines asked the same random questions.
 //! * [`timing`]: how long two engines take for the same question.
 

@@ -59,7 +59,7 @@ fn all_kinds_start_at_an_early_slot() {
     all_start_at(0, &Counters { symbols: 2, rights: 7, lefts: 7, totals: 7, nodes: 4, idle: 0, common: 10 });
 }
 
-/// Hundreds of kinds start at a few slots, each at the head of a long run.
+/// Hundreds of kinds start at a few slots, so that runs of occupied slots are long and may meet.
 #[test]
 fn kinds_start_at_few_slots() {
     for common in 1..10 {

@@ -167,10 +167,10 @@ module _ (words slots kind : List ℕ) (s : Searchable words slots) where
           (ap (λ (o : ℕ). eqb (bitAnd (getD slots (slotAfter from (j - k)) 0) o) 0) (sym q) ∙ past (j - k) (omega arith)))
 
   -- the search comes to the next slot that may end it
-  pub at-past : {from : ℕ} (k : ℕ) → NoneEnds words slots kind k → from ≡ firstSlot kind + k
+  pub reached-past : {from : ℕ} (k : ℕ) → NoneEnds words slots kind k → from ≡ firstSlot kind + k
       → {others place slot entry : ℕ} → others ≡ othersOf (fingerprint kind) → place ≡ from + stepsPast slots from others → slot ≡ place % 1024 → entry ≡ getD slots slot 0
       → Reached words slots kind place entry
-  at-past {from} k passed p {others} q r t e =
+  reached-past {from} k passed p {others} q r t e =
       record {
         steps = k + stepsPast slots from others;
         placed = omega arith;
@@ -179,44 +179,44 @@ module _ (words slots kind : List ℕ) (s : Searchable words slots) where
       }
 
   -- .. the first one
-  pub at-first : {from others place slot entry : ℕ} → from ≡ firstSlot kind → others ≡ othersOf (fingerprint kind) → place ≡ from + stepsPast slots from others → slot ≡ place % 1024
+  pub reached-first : {from others place slot entry : ℕ} → from ≡ firstSlot kind → others ≡ othersOf (fingerprint kind) → place ≡ from + stepsPast slots from others → slot ≡ place % 1024
       → entry ≡ getD slots slot 0
       → Reached words slots kind place entry
-  at-first p = at-past 0 (λ j l. absurd (omega arith)) (omega arith)
+  reached-first p = reached-past 0 (λ j l. absurd (omega arith)) (omega arith)
 
-  module _ {place entry : ℕ} (at : Reached words slots kind place entry) where
-    same-slot : place % 1024 ≡ slotAfter (firstSlot kind) (at .steps)
-    same-slot = omega (arith, at .placed)
+  module _ {place entry : ℕ} (reached : Reached words slots kind place entry) where
+    same-slot : place % 1024 ≡ slotAfter (firstSlot kind) (reached .steps)
+    same-slot = omega (arith, reached .placed)
 
-    pub at-few : place < firstSlot kind + 1024
-    at-few = omega (arith, at .placed, passed-few (at .steps) (at .passed))
+    pub reached-few : place < firstSlot kind + 1024
+    reached-few = omega (arith, reached .placed, passed-few (reached .steps) (reached .passed))
 
-    occupied-here : (entry ≡ 0 → ⊥) → isFree slots (slotAfter (firstSlot kind) (at .steps)) ≡ false
-    occupied-here some = ne-eqb _ 0 (λ z. some (at .read ∙ z))
+    occupied-here : (entry ≡ 0 → ⊥) → isFree slots (slotAfter (firstSlot kind) (reached .steps)) ≡ false
+    occupied-here some = ne-eqb _ 0 (λ z. some (reached .read ∙ z))
 
-    pub at-stands : (entry ≡ 0 → ⊥) → EntryStands words entry
-    at-stands some = subst (λ (x : ℕ). EntryStands words x) (sym (at .read)) (s .stands (slotAfter (firstSlot kind) (at .steps)) (occupied-here some))
+    pub reached-stands : (entry ≡ 0 → ⊥) → EntryStands words entry
+    reached-stands some = subst (λ (x : ℕ). EntryStands words x) (sym (reached .read)) (s .stands (slotAfter (firstSlot kind) (reached .steps)) (occupied-here some))
 
     -- the search ends at a row of this kind
     pub ends-at-row : sameKind words (rowOf entry) kind ≡ true → place % 1024 ≡ slotOf words slots kind
     ends-at-row e =
         same-slot
-        ∙ ends-here (at .steps) (at .passed)
-        (or-second (isFree slots (slotAfter (firstSlot kind) (at .steps))) (sym (ap (λ (x : ℕ). sameKind words (rowOf x) kind) (at .read)) ∙ e))
+        ∙ ends-here (reached .steps) (reached .passed)
+        (or-second (isFree slots (slotAfter (firstSlot kind) (reached .steps))) (sym (ap (λ (x : ℕ). sameKind words (rowOf x) kind) (reached .read)) ∙ e))
 
     -- .. or at an unoccupied slot
     pub ends-at-free : entry ≡ 0 → place % 1024 ≡ slotOf words slots kind
-    ends-at-free z = same-slot ∙ ends-here (at .steps) (at .passed) (or-known _ (eq-eqb _ 0 (sym (at .read) ∙ z)))
+    ends-at-free z = same-slot ∙ ends-here (reached .steps) (reached .passed) (or-known _ (eq-eqb _ 0 (sym (reached .read) ∙ z)))
 
     -- or goes on behind a row of another kind
-    pub passed-row : (entry ≡ 0 → ⊥) → sameKind words (rowOf entry) kind ≡ false → NoneEnds words slots kind (at .steps + 1)
-    passed-row some e j l = go (ℕ-discrete j (at .steps))
+    pub passed-row : (entry ≡ 0 → ⊥) → sameKind words (rowOf entry) kind ≡ false → NoneEnds words slots kind (reached .steps + 1)
+    passed-row some e j l = go (ℕ-discrete j (reached .steps))
       where
-        go : Dec (j ≡ at .steps) → endsAt words slots kind (slotAfter (firstSlot kind) j) ≡ false
-        go (yes q) = rw q (or-other _ (occupied-here some) ∙ sym (ap (λ (x : ℕ). sameKind words (rowOf x) kind) (at .read)) ∙ e)
-        go (no q) = at .passed j (omega arith)
+        go : Dec (j ≡ reached .steps) → endsAt words slots kind (slotAfter (firstSlot kind) j) ≡ false
+        go (yes q) = rw q (or-other _ (occupied-here some) ∙ sym (ap (λ (x : ℕ). sameKind words (rowOf x) kind) (reached .read)) ∙ e)
+        go (no q) = reached .passed j (omega arith)
 
-    pub at-next : (entry ≡ 0 → ⊥) → sameKind words (rowOf entry) kind ≡ false
+    pub reached-next : (entry ≡ 0 → ⊥) → sameKind words (rowOf entry) kind ≡ false
         → {others place′ slot entry′ : ℕ} → others ≡ othersOf (fingerprint kind) → place′ ≡ place + 1 + stepsPast slots (place + 1) others → slot ≡ place′ % 1024 → entry′ ≡ getD slots slot 0
         → Reached words slots kind place′ entry′
-    at-next some e = at-past (at .steps + 1) (passed-row some e) (omega (arith, at .placed))
+    reached-next some e = reached-past (reached .steps + 1) (passed-row some e) (omega (arith, reached .placed))

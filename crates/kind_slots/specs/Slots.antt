@@ -29,10 +29,11 @@ slotAfter slot steps = (slot + steps) % 1024
 abbrev pub printOf : ℕ → ℕ
 printOf sum = sum % 2039 + (2047 - sum % 2039) * 2048
 
--- the words added with weights, so that kinds of one sum are told apart too
+-- the words added with weights, so that most kinds of one sum have other fingerprints
 unfoldable pub weightedSum : List ℕ → ℕ
 weightedSum kind = (5 * getD kind 0 0 + 4 * getD kind 1 0 + 3 * getD kind 2 0 + 2 * getD kind 3 0 + getD kind 4 0) % 2 ^ 64
 
+-- the fingerprint of a kind
 abbrev pub fingerprint : List ℕ → ℕ
 fingerprint kind = printOf (weightedSum kind)
 

@@ -5,7 +5,7 @@ use Prim.Native.Nat.{ℕ, _+_, _-_, _%_}
 use native.Mathlib.Omega.{arith}
 use borrow.Author.Needs.{needs}
 use Rattle.kind_slots.specs.Slots.{firstSlot}
-use Rattle.kind_slots.proofs.Searching.{others-are, Reached, at-first, at-few, at-stands, at-next, ends-at-row, ends-at-free}
+use Rattle.kind_slots.proofs.Searching.{others-are, Reached, reached-first, reached-few, reached-stands, reached-next, ends-at-row, ends-at-free}
 use Rattle.kind_slots.proofs.slots.find_slot.Statement.{statement}
 use Rattle.kind_slots.proofs.slots.find_slot.Tie as tie
 
@@ -37,10 +37,10 @@ entry-in-requires : tie.Need-entry-in-requires Inv-loop μ-loop
 entry-in-requires c κs = omega (arith, c .slot-at .ensures)
 
 loop-holds : tie.Need-loop-holds Inv-loop μ-loop
-loop-holds c = at-first _ _ _ (c .before .before .before .before .before .before .before .before .pre) (ap (λ (sum : ℕ). sum % 1024) (c .before .before .before .before .before .before .kind-sum .ensures)) (others-are _ (c .before .before .before .before .before .weighted-sum .ensures) (c .before .before .before .before .print-of .ensures) (c .before .before .before .others-of .ensures)) (c .before .before .pass-others .ensures) (c .before .slot-at .ensures) (c .entry-in .ensures)
+loop-holds c = reached-first _ _ _ (c .before .before .before .before .before .before .before .before .pre) (ap (λ (sum : ℕ). sum % 1024) (c .before .before .before .before .before .before .kind-sum .ensures)) (others-are _ (c .before .before .before .before .before .weighted-sum .ensures) (c .before .before .before .before .print-of .ensures) (c .before .before .before .others-of .ensures)) (c .before .before .pass-others .ensures) (c .before .slot-at .ensures) (c .entry-in .ensures)
 
 is-of-kind-requires : tie.Need-is-of-kind-requires Inv-loop μ-loop
-is-of-kind-requires c κs = at-stands _ _ _ (c .before .before .before .before .before .before .before .before .before .before .pre) (c .before .loop .inv) (c .loop-test .taken) .inside
+is-of-kind-requires c κs = reached-stands _ _ _ (c .before .before .before .before .before .before .before .before .before .before .pre) (c .before .loop .inv) (c .loop-test .taken) .inside
 
 slot-at-requires-2 : tie.Need-slot-at-requires-2 Inv-loop μ-loop
 slot-at-requires-2 c κs = search needs
@@ -49,10 +49,10 @@ returns : tie.Need-returns Inv-loop μ-loop
 returns c = (c .slot-at2 .ensures) ∙ ends-at-row _ _ _ (c .before .before .before .before .before .before .before .before .before .before .before .before .before .pre) (c .before .before .before .before .loop .inv) (sym (c .before .before .is-of-kind .ensures) ∙ c .before .if1 .taken)
 
 add-pass-others : tie.Need-add-pass-others Inv-loop μ-loop
-add-pass-others c = omega (arith, at-few _ _ _ (c .before .before .before .before .before .before .before .before .before .before .before .before .pre) (c .before .before .before .loop .inv))
+add-pass-others c = omega (arith, reached-few _ _ _ (c .before .before .before .before .before .before .before .before .before .before .before .before .pre) (c .before .before .before .loop .inv))
 
 pass-others-requires-2 : tie.Need-pass-others-requires-2 Inv-loop μ-loop
-pass-others-requires-2 c κs = (c .before .before .before .before .before .before .before .before .before .before .before .before .pre .half, omega (arith, at-few _ _ _ (c .before .before .before .before .before .before .before .before .before .before .before .before .pre) (c .before .before .before .loop .inv)))
+pass-others-requires-2 c κs = (c .before .before .before .before .before .before .before .before .before .before .before .before .pre .half, omega (arith, reached-few _ _ _ (c .before .before .before .before .before .before .before .before .before .before .before .before .pre) (c .before .before .before .loop .inv)))
 
 slot-at-requires-3 : tie.Need-slot-at-requires-3 Inv-loop μ-loop
 slot-at-requires-3 c κs = search needs
@@ -61,10 +61,10 @@ entry-in-requires-2 : tie.Need-entry-in-requires-2 Inv-loop μ-loop
 entry-in-requires-2 c κs = omega (arith, c .slot-at3 .ensures)
 
 loop-less : tie.Need-loop-less Inv-loop μ-loop
-loop-less c = omega (arith, c .before .before .pass-others2 .ensures, at-few _ _ _ (c .before .before .before .before .before .before .before .before .before .before .before .before .before .before .before .pre) (c .before .before .before .before .before .before .loop .inv))
+loop-less c = omega (arith, c .before .before .pass-others2 .ensures, reached-few _ _ _ (c .before .before .before .before .before .before .before .before .before .before .before .before .before .before .before .pre) (c .before .before .before .before .before .before .loop .inv))
 
 loop-again : tie.Need-loop-again Inv-loop μ-loop
-loop-again c = at-next _ _ _ (c .before .before .before .before .before .before .before .before .before .before .before .before .before .before .before .pre) (c .before .before .before .before .before .before .loop .inv) (c .before .before .before .before .before .loop-test .taken) (sym (c .before .before .before .before .is-of-kind .ensures) ∙ c .before .before .before .if1 .left) (others-are _ (c .before .before .before .before .before .before .before .before .before .before .before .before .weighted-sum .ensures) (c .before .before .before .before .before .before .before .before .before .before .before .print-of .ensures) (c .before .before .before .before .before .before .before .before .before .before .others-of .ensures)) (c .before .before .pass-others2 .ensures) (c .before .slot-at3 .ensures) (c .entry-in2 .ensures)
+loop-again c = reached-next _ _ _ (c .before .before .before .before .before .before .before .before .before .before .before .before .before .before .before .pre) (c .before .before .before .before .before .before .loop .inv) (c .before .before .before .before .before .loop-test .taken) (sym (c .before .before .before .before .is-of-kind .ensures) ∙ c .before .before .before .if1 .left) (others-are _ (c .before .before .before .before .before .before .before .before .before .before .before .before .weighted-sum .ensures) (c .before .before .before .before .before .before .before .before .before .before .before .print-of .ensures) (c .before .before .before .before .before .before .before .before .before .before .others-of .ensures)) (c .before .before .pass-others2 .ensures) (c .before .slot-at3 .ensures) (c .entry-in2 .ensures)
 
 slot-at-requires-4 : tie.Need-slot-at-requires-4 Inv-loop μ-loop
 slot-at-requires-4 c κs = search needs
