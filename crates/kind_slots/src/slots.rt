@@ -10,6 +10,12 @@ use crate::stored::same_kind;
 // The number of a slot.
 pub struct Slot(pub usize);
 
+// The two sums of a kind's words.
+struct Sums {
+    plain: u64,
+    weighted: u64,
+}
+
 // The sum of two words, without the carry out of 64 bits.
 fn plus(a: u64, b: u64) -> u64
     ensures { λ r. ⌜ r ≡ (a + b) % 2 ^ 64 ⌝ }
@@ -17,25 +23,19 @@ fn plus(a: u64, b: u64) -> u64
     std::num::wrapping_add_u64(a, b)
 }
 
-// The five words of a kind, added.
-fn kind_sum(kind: &[u64; 6]) -> u64
-    ensures { λ r. ⌜ r ≡ kindSum (now (kind .entry)) ⌝ }
-{
-    let two = plus(kind[0], kind[1]);
-    let three = plus(two, kind[2]);
-    let four = plus(three, kind[3]);
-    plus(four, kind[4])
-}
-
-// The five words of a kind, added with weights: the sum of the sums so far.
-fn weighted_sum(kind: &[u64; 6]) -> u64
-    ensures { λ r. ⌜ r ≡ weightedSum (now (kind .entry)) ⌝ }
+// The five words of a kind, added, and added with weights: the sum of the sums so far.
+fn sums_of(kind: &[u64; 6]) -> Sums
+    ensures { λ r. ⌜ (r .plain ≡ kindSum (now (kind .entry))) × (r .weighted ≡ weightedSum (now (kind .entry))) ⌝ }
 {
     let two = plus(kind[0], kind[1]);
     let three = plus(two, kind[2]);
     let four = plus(three, kind[3]);
     let five = plus(four, kind[4]);
-    plus(plus(plus(plus(kind[0], two), three), four), five)
+    let weighted = plus(plus(plus(plus(kind[0], two), three), four), five);
+    Sums {
+        plain: five,
+        weighted: weighted,
+    }
 }
 
 // The fingerprint of a kind with this weighted sum.
@@ -104,9 +104,10 @@ pub fn find_slot(words: &[u64], slots: &[u32; 1024], kind: &[u64; 6]) -> Slot
     requires { ⌜ Searchable (now words) (now slots) ⌝ }
     ensures { λ r. ⌜ r .0 ≡ slotOf (now (words .entry)) (now (slots .entry)) (now (kind .entry)) ⌝ }
 {
-    let sum = kind_sum(kind);
-    let others = others_of(print_of(weighted_sum(kind)));
-    let mut place: usize = pass_others(slots, (sum % 1024) as usize, others);
+    let sums = sums_of(kind);
+    let others = others_of(print_of(sums.weighted));
+    let start = (sums.plain % 1024) as usize;
+    let mut place: usize = pass_others(slots, start, others);
     let mut entry = entry_in(slots, slot_at(place));
     while entry != 0 {
         if is_of_kind(words, entry, kind) {
@@ -132,6 +133,7 @@ pub fn enter_row(slots: &mut [u32; 1024], slot: Slot, kind: &[u64; 6], j: usize)
     ensures { λ _. ⌜ now (slots .exit) ≡ set (now (slots .entry)) (slot .0) (entryOf (now (kind .entry)) j) ⌝ }
 {
     let at = slot.0;
-    let print = print_of(weighted_sum(kind));
+    let sums = sums_of(kind);
+    let print = print_of(sums.weighted);
     slots[at] = print * 1024 + j as u32;
 }

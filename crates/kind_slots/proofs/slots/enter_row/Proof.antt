@@ -7,8 +7,8 @@ use borrow.Author.Needs.{needs}
 use Rattle.kind_slots.proofs.slots.enter_row.Statement.{statement}
 use Rattle.kind_slots.proofs.slots.enter_row.Tie as tie
 
-weighted-sum-requires : tie.Need-weighted-sum-requires
-weighted-sum-requires c κs = search needs
+sums-of-requires : tie.Need-sums-of-requires
+sums-of-requires c κs = search needs
 
 print-of-requires : tie.Need-print-of-requires
 print-of-requires c κs = search needs
@@ -29,13 +29,13 @@ element-write-slots : tie.Need-element-write-slots
 element-write-slots c = search needs
 
 returns : tie.Need-returns
-returns c = ap (λ (print : ℕ). set (c .before .before .args .slots .now) (c .before .before .args .slot .0) (print * 2 ^ 10 + c .before .before .args .j)) ((c .print-of .ensures) ∙ ap printOf (c .before .weighted-sum .ensures))
+returns c = ap (λ (print : ℕ). set (c .before .before .args .slots .now) (c .before .before .args .slot .0) (print * 2 ^ 10 + c .before .before .args .j)) ((c .print-of .ensures) ∙ ap printOf (c .before .sums-of .ensures .1))
 
 pub enter-row-spec : {M : Type 1} → statement M
 enter-row-spec =
     tie.close
     (tie.spec
-    weighted-sum-requires
+    sums-of-requires
     print-of-requires
     mul-slots
     cast-slots

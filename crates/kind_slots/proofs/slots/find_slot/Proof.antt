@@ -10,16 +10,13 @@ use Rattle.kind_slots.proofs.slots.find_slot.Statement.{statement}
 use Rattle.kind_slots.proofs.slots.find_slot.Tie as tie
 
 abbrev Inv-loop : tie.InvT-loop
-Inv-loop words slots kind sum others place₀ entry₀ place entry = Reached words slots kind place entry
+Inv-loop words slots kind others start place₀ entry₀ place entry = Reached words slots kind place entry
 
 abbrev μ-loop : tie.MeasureT-loop
-μ-loop words slots kind sum others place₀ entry₀ place entry = firstSlot kind + 1024 - place
+μ-loop words slots kind others start place₀ entry₀ place entry = firstSlot kind + 1024 - place
 
-kind-sum-requires : tie.Need-kind-sum-requires Inv-loop μ-loop
-kind-sum-requires c κs = search needs
-
-weighted-sum-requires : tie.Need-weighted-sum-requires Inv-loop μ-loop
-weighted-sum-requires c κs = search needs
+sums-of-requires : tie.Need-sums-of-requires Inv-loop μ-loop
+sums-of-requires c κs = search needs
 
 print-of-requires : tie.Need-print-of-requires Inv-loop μ-loop
 print-of-requires c κs = search needs
@@ -37,7 +34,7 @@ entry-in-requires : tie.Need-entry-in-requires Inv-loop μ-loop
 entry-in-requires c κs = omega (arith, c .slot-at .ensures)
 
 loop-holds : tie.Need-loop-holds Inv-loop μ-loop
-loop-holds c = reached-first _ _ _ (c .before .before .before .before .before .before .before .before .pre) (ap (λ (sum : ℕ). sum % 1024) (c .before .before .before .before .before .before .kind-sum .ensures)) (others-are _ (c .before .before .before .before .before .weighted-sum .ensures) (c .before .before .before .before .print-of .ensures) (c .before .before .before .others-of .ensures)) (c .before .before .pass-others .ensures) (c .before .slot-at .ensures) (c .entry-in .ensures)
+loop-holds c = reached-first _ _ _ (c .before .before .before .before .before .before .before .before .pre) (ap (λ (sum : ℕ). sum % 1024) (c .before .before .before .before .before .before .sums-of .ensures .0)) (others-are _ (c .before .before .before .before .before .before .sums-of .ensures .1) (c .before .before .before .before .before .print-of .ensures) (c .before .before .before .before .others-of .ensures)) (c .before .before .pass-others .ensures) (c .before .slot-at .ensures) (c .entry-in .ensures)
 
 is-of-kind-requires : tie.Need-is-of-kind-requires Inv-loop μ-loop
 is-of-kind-requires c κs = reached-stands _ _ _ (c .before .before .before .before .before .before .before .before .before .before .pre) (c .before .loop .inv) (c .loop-test .taken) .inside
@@ -64,7 +61,7 @@ loop-less : tie.Need-loop-less Inv-loop μ-loop
 loop-less c = omega (arith, c .before .before .pass-others2 .ensures, reached-few _ _ _ (c .before .before .before .before .before .before .before .before .before .before .before .before .before .before .before .pre) (c .before .before .before .before .before .before .loop .inv))
 
 loop-again : tie.Need-loop-again Inv-loop μ-loop
-loop-again c = reached-next _ _ _ (c .before .before .before .before .before .before .before .before .before .before .before .before .before .before .before .pre) (c .before .before .before .before .before .before .loop .inv) (c .before .before .before .before .before .loop-test .taken) (sym (c .before .before .before .before .is-of-kind .ensures) ∙ c .before .before .before .if1 .left) (others-are _ (c .before .before .before .before .before .before .before .before .before .before .before .before .weighted-sum .ensures) (c .before .before .before .before .before .before .before .before .before .before .before .print-of .ensures) (c .before .before .before .before .before .before .before .before .before .before .others-of .ensures)) (c .before .before .pass-others2 .ensures) (c .before .slot-at3 .ensures) (c .entry-in2 .ensures)
+loop-again c = reached-next _ _ _ (c .before .before .before .before .before .before .before .before .before .before .before .before .before .before .before .pre) (c .before .before .before .before .before .before .loop .inv) (c .before .before .before .before .before .loop-test .taken) (sym (c .before .before .before .before .is-of-kind .ensures) ∙ c .before .before .before .if1 .left) (others-are _ (c .before .before .before .before .before .before .before .before .before .before .before .before .before .sums-of .ensures .1) (c .before .before .before .before .before .before .before .before .before .before .before .before .print-of .ensures) (c .before .before .before .before .before .before .before .before .before .before .before .others-of .ensures)) (c .before .before .pass-others2 .ensures) (c .before .slot-at3 .ensures) (c .entry-in2 .ensures)
 
 slot-at-requires-4 : tie.Need-slot-at-requires-4 Inv-loop μ-loop
 slot-at-requires-4 c κs = search needs
@@ -78,8 +75,7 @@ find-slot-spec =
     (tie.spec
     Inv-loop
     μ-loop
-    kind-sum-requires
-    weighted-sum-requires
+    sums-of-requires
     print-of-requires
     others-of-requires
     pass-others-requires

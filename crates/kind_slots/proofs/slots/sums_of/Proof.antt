@@ -1,9 +1,9 @@
 -- Dropping the carry at each addition drops it from the whole.
-use Rattle.kind_slots.specs.Slots.{weightedSum}
-use Rattle.kind_slots.proofs.Sums.{sum-of-sums}
+use Rattle.kind_slots.specs.Slots.{kindSum, weightedSum}
+use Rattle.kind_slots.proofs.Sums.{sum-of-words, sum-of-sums}
 use borrow.Author.Needs.{needs}
-use Rattle.kind_slots.proofs.slots.weighted_sum.Statement.{statement}
-use Rattle.kind_slots.proofs.slots.weighted_sum.Tie as tie
+use Rattle.kind_slots.proofs.slots.sums_of.Statement.{statement}
+use Rattle.kind_slots.proofs.slots.sums_of.Tie as tie
 
 element-copy-out-plus : tie.Need-element-copy-out-plus
 element-copy-out-plus c = search needs
@@ -48,11 +48,11 @@ plus-requires-8 : tie.Need-plus-requires-8
 plus-requires-8 c κs = search needs
 
 returns : tie.Need-returns
-unfolding weightedSum
-returns c = sum-of-sums _ _ _ _ _ (c .before .before .before .before .before .before .before .before .before .before .before .plus .ensures) (c .before .before .before .before .before .before .before .before .before .plus2 .ensures) (c .before .before .before .before .before .before .before .plus3 .ensures) (c .before .before .before .before .before .plus4 .ensures) (c .before .before .before .plus5 .ensures) (c .before .before .plus6 .ensures) (c .before .plus7 .ensures) (c .plus8 .ensures)
+unfolding kindSum weightedSum
+returns c = (sum-of-words _ _ _ _ _ (c .before .before .before .before .before .before .before .before .before .before .before .plus .ensures) (c .before .before .before .before .before .before .before .before .before .plus2 .ensures) (c .before .before .before .before .before .before .before .plus3 .ensures) (c .before .before .before .before .before .plus4 .ensures), sum-of-sums _ _ _ _ _ (c .before .before .before .before .before .before .before .before .before .before .before .plus .ensures) (c .before .before .before .before .before .before .before .before .before .plus2 .ensures) (c .before .before .before .before .before .before .before .plus3 .ensures) (c .before .before .before .before .before .plus4 .ensures) (c .before .before .before .plus5 .ensures) (c .before .before .plus6 .ensures) (c .before .plus7 .ensures) (c .plus8 .ensures))
 
-pub weighted-sum-spec : {M : Type 1} → statement M
-weighted-sum-spec =
+pub sums-of-spec : {M : Type 1} → statement M
+sums-of-spec =
     tie.close
     (tie.spec
     element-copy-out-plus
