@@ -1,9 +1,10 @@
--- The first number below n that passes a test: one search for every table.
-use mathlib.Core.Path.{_≡_, refl, ap, _∙_}
+-- The first number below n that passes a test: one search for every table; and the greatest.
+use mathlib.Core.Path.{_≡_, refl, ap, sym, _∙_}
 use mathlib.Core.Bool.{Bool, true, false}
 use Prim.Native.Nat.{ℕ, zero, suc, _<_, _≤_}
 use native.Mathlib.Nat.{not-suc-le-zero, le-of-suc-le-suc}
 use native.Mathlib.Omega.{arith}
+use native.Mathlib.Decide.{ℕ-discrete}
 use Rattle.foundation.specs.Tests.{choose}
 
 -- the least k below n at which p holds, or n where there is none
@@ -70,3 +71,18 @@ pub first-cong : (p q : ℕ → Bool) (n : ℕ) → ((j : ℕ) → j < n → p j
 unfolding first
 first-cong p q zero h = refl
 first-cong p q (suc n) h = rw (h 0 (omega arith), first-cong (λ k. p (suc k)) (λ k. q (suc k)) n (λ j l. h (suc j) (omega arith)))
+
+-- the greatest k below n at which p holds, or 0 where there is none
+unfoldable pub greatest : (ℕ → Bool) → ℕ → ℕ
+greatest p zero = zero
+greatest p (suc n) = choose (p n) n (greatest p n)
+
+-- a number that passes, with none above it that does, is the greatest
+pub greatest-at : (p : ℕ → Bool) (n k : ℕ) → k < n → p k ≡ true → ((j : ℕ) → k < j → j < n → p j ≡ false) → greatest p n ≡ k
+unfolding greatest
+greatest-at p zero k h hit none = absurd (not-suc-le-zero h)
+greatest-at p (suc n) k h hit none = go (λ l. greatest-at p n k l hit (λ j above m. none j above (omega arith))) (ℕ-discrete k n)
+  where
+    go : (k < n → greatest p n ≡ k) → Dec (k ≡ n) → greatest p (suc n) ≡ k
+    go below (yes e) = rw (rw e at hit) (sym e)
+    go below (no ne) = rw (none n (omega arith) (omega arith)) (below (omega arith))

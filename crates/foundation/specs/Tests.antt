@@ -1,4 +1,4 @@
--- Tests: Boolean connectives, comparisons, and "some number below n passes".
+-- Tests: Boolean connectives, comparisons, "some number below n passes" and "every number below n passes".
 -- They stay closed until a proof opens them, so that a law's arguments can be found from its statement.
 -- Tests of table entries, which code computes with `&`, `|` and `!`, use the library's `_&&_`, `_||_` and `not` instead.
 use mathlib.Core.Path.{_≡_, refl, ap₂, subst, sym}
@@ -34,6 +34,11 @@ below m n = ltb m n
 unfoldable pub someBelow : ℕ → (ℕ → Bool) → Bool
 someBelow zero f = false
 someBelow (suc n) f = someBelow n f or f n
+
+-- every number below n passes the test f
+unfoldable pub everyBelow : ℕ → (ℕ → Bool) → Bool
+everyBelow zero f = true
+everyBelow (suc n) f = everyBelow n f and f n
 
 pub and-left : (a b : Bool) → T (a and b) → T a
 unfolding _and_
@@ -125,3 +130,17 @@ pub some-cong : (n : ℕ) (f g : ℕ → Bool) → ((i : ℕ) → i < n → f i 
 unfolding someBelow
 some-cong zero f g h = refl
 some-cong (suc n) f g h = ap₂ _or_ (some-cong n f g (λ i l. h i (omega arith))) (h n (omega arith))
+
+pub every-intro : (n : ℕ) (f : ℕ → Bool) → ((i : ℕ) → i < n → T (f i)) → T (everyBelow n f)
+unfolding everyBelow
+every-intro zero f h = tt
+every-intro (suc n) f h = and-both _ _ (every-intro n f (λ i l. h i (omega arith))) (h n (omega arith))
+
+pub every-elim : (n : ℕ) (f : ℕ → Bool) → T (everyBelow n f) → (i : ℕ) → i < n → T (f i)
+unfolding everyBelow
+every-elim zero f t i h = absurd (not-suc-le-zero h)
+every-elim (suc n) f t i h = go (λ (l : i < n). every-elim n f (and-left _ _ t) i l) (ℕ-discrete i n)
+  where
+    go : (i < n → T (f i)) → Dec (i ≡ n) → T (f i)
+    go k (yes e) = subst (λ (m : ℕ). T (f m)) (sym e) (and-right _ _ t)
+    go k (no ne) = k (omega arith)

@@ -1,4 +1,5 @@
 -- Laws of the definitions, a file for each of the files of specs/ that has any, and what admission establishes.
+pub mod Trees
 pub mod Answers
 pub mod Expressions
 pub mod Rows

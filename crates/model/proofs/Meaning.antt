@@ -8,6 +8,7 @@ pub mod Readings
 pub mod Kinds
 pub mod KindCounts
 pub mod Answers
+pub mod Stops
 pub mod Checks
 pub mod AcceptMarks
 pub mod Demand
@@ -19,4 +20,5 @@ pub mod Refusals
 pub mod Judgements
 pub mod Merging
 pub mod MergingAnswers
+pub mod MergeLaw
 pub mod MergedChecks

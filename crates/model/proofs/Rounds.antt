@@ -6,6 +6,7 @@ pub mod Distinct
 pub mod RowTrees
 pub mod Listing
 pub mod Least
+pub mod Heights
 pub mod Skipping
 pub mod Stopping
 pub mod Buffers

@@ -1,5 +1,5 @@
--- Answers: what an operation gives back, in document 01's numbers, with the numbers taken of change request W-205; and refusals, of
--- which the first that applies is given.
+-- Answers: what an operation gives back, in document 01's numbers, with the numbers taken of change request W-205 and the height of
+-- W-214; and refusals, of which the first that applies is given.
 use mathlib.Core.Bool.{Bool}
 use Prim.Native.Nat.{ℕ, zero, suc}
 use lib.Dec.{ltb}
@@ -44,6 +44,8 @@ pub data Answer : Type 0 where
   written : (count : ℕ) → Answer
   -- number and place
   refusal : (number place : ℕ) → Answer
+  -- refusal 10, "stopped at the limit": "10 carries h beside the limit"
+  stopped : (limit height : ℕ) → Answer
 
 -- "how many numbers it took"; 0 where an answer does not tell it
 abbrev pub takenByAnswer : Answer → ℕ
@@ -54,6 +56,7 @@ takenByAnswer (pass count) = 0
 takenByAnswer (ran root used taken) = taken
 takenByAnswer (written count) = 0
 takenByAnswer (refusal number place) = 0
+takenByAnswer (stopped limit height) = 0
 
 -- what is given where nothing is refused, and otherwise the refusal
 unfoldable pub given {ℓ} : {A : Type ℓ} → Verdict → (ℕ → ℕ → A) → A → A

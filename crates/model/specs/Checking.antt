@@ -5,13 +5,14 @@ use Prim.Native.Nat.{ℕ, suc, _*_, min}
 use lib.Dec.{eqb, ltb}
 use lib.ListN.{length, getD, take}
 use Rattle.foundation.specs.Tests.{choose}
-use Rattle.foundation.specs.Search.{first}
+use Rattle.foundation.specs.Search.{first, greatest}
 use Rattle.foundation.specs.Lists.{zeroFilled}
+use Rattle.model.specs.Trees.{Tree, everyTree}
 use Rattle.model.specs.Tables.{Contract}
-use Rattle.model.specs.Answers.{Verdict, refuseFirst, _then_, Answer, tree, pass, refusal, given}
+use Rattle.model.specs.Answers.{Verdict, refuseFirst, _then_, Answer, tree, pass, refusal, stopped, given}
 use Rattle.model.specs.Admission.{admission, outside}
-use Rattle.model.specs.Kinds.{breaks}
-use Rattle.model.specs.Rounds.{kindAutomaton, ListedKind, kindAt, listing}
+use Rattle.model.specs.Kinds.{kindOf, breaks}
+use Rattle.model.specs.Rounds.{kindAutomaton, ListedKind, kindAt, lists, listing}
 
 -- "No limit exceeds 512."
 abbrev pub greatestLimit : ℕ
@@ -41,6 +42,15 @@ module _ (C : Contract) where
   unfoldable pub firstBreaking : List (ListedKind C) → ℕ → ℕ
   firstBreaking rows n = first (λ j. breaks C (kindAt C rows j)) n
 
+  -- "its kind among the first L": of the list, of which L rounds are enough
+  abbrev pub amongFirst : ℕ → Tree → Bool
+  amongFirst L t = lists (kindAutomaton C) (take L (listing (kindAutomaton C) L)) (kindOf C t)
+
+  -- "the greatest height h such that every tree of height h or less has its kind among the first L" (change request W-214), where there
+  -- are more than L kinds: it is then below L, as each round adds a kind
+  unfoldable pub stopHeight : ℕ → ℕ
+  stopHeight L = greatest (λ h. everyTree (C .transformation .symbols) h (amongFirst L)) L
+
   -- the answer by the list, of which L rounds are enough: each round but the last adds a row
   unfoldable pub answered : ℕ → List (ListedKind C) → Checked
   answered L rows =
@@ -49,8 +59,8 @@ module _ (C : Contract) where
       -- "'Tree' with row j if row j, below L, is the first breaking kind: rows and words 0 to j stand"
       choose (ltb j n) (standing L (tree j) (take (suc j) rows))
       -- "10 (place L), stopped at the limit, if there are more than L kinds and none of the first L breaks: both buffers
-      -- are all 0"
-      (choose (ltb L (length rows)) (standing L (refusal 10 L) [])
+      -- are all 0"; "With refusal 10 give the greatest height h .."
+      (choose (ltb L (length rows)) (standing L (stopped L (stopHeight L)) [])
       -- "'Pass' with the count if there are at most L kinds and none breaks: all stand"
       (standing L (pass (length rows)) rows))
 

@@ -10,7 +10,7 @@ use Rattle.model.specs.Trees.{Tree, height, Over, OneRoot, preorder}
 use Rattle.model.specs.Documents.{mostNumbers, All, preorders}
 use Rattle.model.specs.Rows.{rowCount, treeAt}
 use Rattle.model.specs.Tables.{Contract}
-use Rattle.model.specs.Answers.{Answer, judged, tree, pass, refusal, takenByAnswer}
+use Rattle.model.specs.Answers.{Answer, judged, tree, pass, refusal, stopped, takenByAnswer}
 use Rattle.model.specs.Kinds.{emptyKind, kindOf, breaks}
 use Rattle.model.specs.Rounds.{kindAutomaton, ListedKind, kindAt, rounds}
 use Rattle.model.specs.Checking.{greatestLimit, Checked, standing, checking}
@@ -145,10 +145,37 @@ pub record LeastBreaking (C : Contract) (t : Tree) : Type 0 where
   pub breaking : Breaks C t
   pub least : (other : Tree) → TreeOf C other → Breaks C other → height t ≤ height other
 
--- what refusal 10 under limit L says
-pub record StopMeans (C : Contract) (L : ℕ) : Type 0 where
+-- "if there are more than L kinds and none of the first L breaks"
+pub record Stops (C : Contract) (L : ℕ) : Type 0 where
   pub moreKinds : MoreKinds C L
   pub firstKeep : FirstKeep C L
+
+-- "its kind among the first L": row `row` of the list has it
+pub record AmongFirst (C : Contract) (L : ℕ) (kind : List ℕ) : Type 0 where
+  pub round : ℕ
+  pub row : ℕ
+  pub belowLimit : row < L
+  pub inside : row < length (kindRounds C round)
+  pub found : kindAt C (kindRounds C round) row ≡ kind
+
+-- "every tree of height h or less has its kind among the first L"
+abbrev pub Covers : Contract → (L h : ℕ) → Type 0
+Covers C L h = (t : Tree) → TreeOf C t → height t ≤ h → AmongFirst C L (kindOf C t)
+
+-- round h is the one before that in which the first kind left out is listed
+pub record LastHeld (C : Contract) (L h : ℕ) : Type 0 where
+  pub held : length (kindRounds C h) ≤ L
+  pub leftOut : L < length (kindRounds C (suc h))
+
+-- what refusal 10 under limit L with height h says
+pub record StopMeans (C : Contract) (L h : ℕ) : Type 0 where
+  pub stops : Stops C L
+  -- "the greatest height h such that every tree of height h or less has its kind among the first L" (change request W-214)
+  pub covers : Covers C L h
+  pub isGreatest : (k : ℕ) → Covers C L k → k ≤ h
+  -- "no document of height h or less breaks the contract"
+  pub noneLow : (t : Tree) → TreeOf C t → height t ≤ h → Breaks C t → ⊥
+  pub lastHeld : LastHeld C L h
 
 -- "buffers of its limit's length", "No limit exceeds 512."
 pub record Fits (L : ℕ) (rowBuffer wordBuffer : List ℕ) : Type 0 where
@@ -172,7 +199,7 @@ checkOf C lent = checking C (lent .limit) (lent .rowBuffer) (lent .wordBuffer)
 pub data OneOfThree (L : ℕ) (answer : Answer) : Type 0 where
   is-pass : (n : ℕ) → answer ≡ pass n → OneOfThree L answer
   is-tree : (j : ℕ) → answer ≡ tree j → OneOfThree L answer
-  is-stop : answer ≡ refusal 10 L → OneOfThree L answer
+  is-stop : (h : ℕ) → answer ≡ stopped L h → OneOfThree L answer
 
 -- Demand 2, for checking: "A contract passes exactly if no tree of the input type has an output outside the output type and
 -- its kinds number at most the caller's limit, 512 at most. A document shown breaks the contract, and no lower one does. The
@@ -183,12 +210,18 @@ pub record CheckMeans (C : Contract) (lent : Lent) : Type 0 where
   pub passExactly : (n : ℕ) → (checkOf C lent .answer ≡ pass n) ↔ PassMeans C (lent .limit) n
   pub treeExactly : (j : ℕ) → (checkOf C lent .answer ≡ tree j) ↔ FirstBreaks C (lent .limit) j
   pub treeLeast : (j : ℕ) → checkOf C lent .answer ≡ tree j → LeastBreaking C (treeAt (checkOf C lent .rows) j)
-  pub stopExactly : (checkOf C lent .answer ≡ refusal 10 (lent .limit)) ↔ StopMeans C (lent .limit)
+  pub stopExactly : (h : ℕ) → (checkOf C lent .answer ≡ stopped (lent .limit) h) ↔ StopMeans C (lent .limit) h
   -- the rows and words that stand are those of the rounds
   pub passRows : (n : ℕ) → checkOf C lent .answer ≡ pass n → checkOf C lent ≡ standing C (lent .limit) (pass n) (kindRounds C (lent .limit))
   pub treeRows : (j : ℕ) → checkOf C lent .answer ≡ tree j
       → checkOf C lent ≡ standing C (lent .limit) (tree j) (take (suc j) (kindRounds C (lent .limit)))
-  pub stopRows : checkOf C lent .answer ≡ refusal 10 (lent .limit) → checkOf C lent ≡ standing C (lent .limit) (refusal 10 (lent .limit)) []
+  pub stopRows : (h : ℕ) → checkOf C lent .answer ≡ stopped (lent .limit) h → checkOf C lent ≡ standing C (lent .limit) (stopped (lent .limit) h) []
+
+-- "a larger limit, if it stops too, never gives a smaller h" (W-214)
+abbrev pub LargerLimitStop : Contract → (first second : Lent) → Type 0
+LargerLimitStop C first second =
+    first .limit ≤ second .limit
+    → (h k : ℕ) → checkOf C first .answer ≡ stopped (first .limit) h → checkOf C second .answer ≡ stopped (second .limit) k → h ≤ k
 
 -- "root row and rows used come back"; "The tree is one of the outputs defined above.": what the answer of a run says, of the document
 -- that the numbers begin with

@@ -1,6 +1,6 @@
 -- Merging two output types, change request W-206: the merged type, what is refused, the answer with the closing buffers; and as
--- statements what these mean, for trees, for a caller and for checks. proofs/Meaning/Merging.antt, MergingAnswers.antt and
--- MergedChecks.antt prove them.
+-- statements what these mean, for trees, for a caller and for checks, with W-214's law of merging. proofs/Meaning/Merging.antt,
+-- MergingAnswers.antt, MergeLaw.antt and MergedChecks.antt prove them.
 use mathlib.Core.Path.{_≡_}
 use mathlib.Core.Bool.{Bool, false, not}
 use mathlib.Core.List.{List, [], _∷_, _++_}
@@ -176,6 +176,41 @@ module _ (S : ℕ) (Y : OutputType) (S′ : ℕ) (Z : OutputType) (tableBuffer m
     pub isMerged : (n : ℕ) → result .answer ≡ merged n → IsMerged S Y Z (typeIn S n (result .table) (result .marks))
     pub tableKept : (n : ℕ) → result .answer ≡ merged n → drop (tableLength S n) (result .table) ≡ drop (tableLength S n) tableBuffer
     pub marksKept : (n : ℕ) → result .answer ≡ merged n → drop n (result .marks) ≡ drop n marksBuffer
+
+-- M is what merging Y and Z over S symbols left in the buffers lent: "sizes permitting", as otherwise merging refuses
+pub record MergedBy (S : ℕ) (Y Z M : OutputType) : Type 0 where
+  pub tableBuffer : List ℕ
+  pub marksBuffer : List ℕ
+  pub states : ℕ
+  pub answered : merging S Y S Z tableBuffer marksBuffer .answer ≡ merged states
+  pub made : M ≡ typeIn S states (merging S Y S Z tableBuffer marksBuffer .table) (merging S Y S Z tableBuffer marksBuffer .marks)
+
+-- how a type is put together by merging, what it is then, and of which parts
+pub data Plan : Type 0 where
+  part : OutputType → Plan
+  both : Plan → Plan → Plan
+
+abbrev pub PutTogether : ℕ → Plan → OutputType → Type 0
+PutTogether S (part Y) M = M ≡ Y
+PutTogether S (both p q) M = (Y : OutputType) × (Z : OutputType) × PutTogether S p Y × PutTogether S q Z × MergedBy S Y Z M
+
+abbrev pub PartOf : OutputType → Plan → Type 0
+PartOf Y (part Z) = Y ≡ Z
+PartOf Y (both p q) = PartOf Y p ⊎ PartOf Y q
+
+-- what two plans make, where merging refuses nothing, allows the same trees
+abbrev pub AllowSame : ℕ → (p q : Plan) → Type 0
+AllowSame S p q = (M N : OutputType) → PutTogether S p M → PutTogether S q N → (u : Tree) → TypeAllows M u ↔ TypeAllows N u
+
+-- "order, grouping and self-merging do not change which trees merged types allow, sizes permitting" (change request W-214)
+pub record MergeLaw (S : ℕ) : Type 0 where
+  -- a type allows exactly the trees that all its parts allow, however it was put together
+  pub allowsAll : (p : Plan) (M : OutputType) → PutTogether S p M → (u : Tree) → TypeAllows M u ↔ ((Y : OutputType) → PartOf Y p → TypeAllows Y u)
+  -- so of the same parts, types are made that allow the same trees
+  pub sameParts : (p q : Plan) → ((Y : OutputType) → PartOf Y p ↔ PartOf Y q) → AllowSame S p q
+  pub order : (p q : Plan) → AllowSame S (both p q) (both q p)
+  pub grouping : (p q r : Plan) → AllowSame S (both (both p q) r) (both p (both q r))
+  pub self : (p : Plan) → AllowSame S (both p p) p
 
 -- a contract with another output type
 abbrev pub withOutput : Contract → OutputType → Contract

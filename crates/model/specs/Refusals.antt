@@ -221,15 +221,14 @@ abbrev pub NotOfRun : ℕ → Type 0
 NotOfRun number = 13 ≤ number → number ≤ 15 → ⊥
 
 -- "a refusal carries a number and a place and leaves the lent buffers as document 01 states": the refusals of the five operations,
--- but for checking's 10 and running's 13 to 15, which come of the work itself
+-- but for checking's 10, which is an answer of its own, and running's 13 to 15; these come of the work itself
 pub record OperationRefusals : Type 0 where
   pub ofAdmission : (C : Contract) → Refuses (admissionReasons C) (λ number place. admit C ≡ refusal number place) [] []
   pub ofJudging : (C : Contract) (numbers buffer : List ℕ)
       → Refuses (judgingReasons C numbers buffer) (λ number place. judging C numbers buffer .answer ≡ refusal number place) (buffer ∷ [])
       (judging C numbers buffer .words ∷ [])
   pub ofChecking : (C : Contract) (L : ℕ) (rowBuffer wordBuffer : List ℕ)
-      → Refuses (checkingReasons C L rowBuffer wordBuffer)
-      (λ number place. (checking C L rowBuffer wordBuffer .answer ≡ refusal number place) × (number ≡ 10 → ⊥))
+      → Refuses (checkingReasons C L rowBuffer wordBuffer) (λ number place. checking C L rowBuffer wordBuffer .answer ≡ refusal number place)
       (rowBuffer ∷ wordBuffer ∷ [])
       (checking C L rowBuffer wordBuffer .rows ∷ checking C L rowBuffer wordBuffer .words ∷ [])
   pub ofRunning : (C : Contract) (numbers buffer : List ℕ)

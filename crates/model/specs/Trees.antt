@@ -1,6 +1,8 @@
--- Trees: forests in binary form, their height, and their numbers in preorder.
+-- Trees: forests in binary form, their height, a test of all trees up to a height, and their numbers in preorder.
+use mathlib.Core.Bool.{Bool}
 use mathlib.Core.List.{List, [], _∷_, _++_}
-use Prim.Native.Nat.{ℕ, suc, _≤_, _<_, max}
+use Prim.Native.Nat.{ℕ, zero, suc, _-_, _≤_, _<_, max}
+use Rattle.foundation.specs.Tests.{_and_, everyBelow}
 
 -- "symbol 0 is the empty forest and is a leaf; every other symbol has two children, left the first child's forest,
 -- right the following siblings"
@@ -31,6 +33,11 @@ OneRoot (node s l r) = IsEmpty r
 abbrev pub Over : ℕ → Tree → Type 0
 Over S empty = Unit {0}
 Over S (node s l r) = (1 ≤ s) × (s < S) × Over S l × Over S r
+
+-- every tree over the symbols below S, of height h or less, passes the test p
+unfoldable pub everyTree : (S h : ℕ) → (Tree → Bool) → Bool
+everyTree S zero p = p empty
+everyTree S (suc h) p = p empty and everyBelow (S - 1) (λ c. everyTree S h (λ l. everyTree S h (λ r. p (node (suc c) l r))))
 
 -- "its symbols in preorder"
 unfoldable pub preorder : Tree → List ℕ

@@ -12,12 +12,12 @@ use Rattle.foundation.specs.Tests.{test-true, true-test, test-false, false-test
 use Rattle.model.specs.Trees.{Tree}
 use Rattle.model.specs.Rows.{treeAt}
 use Rattle.model.specs.Tables.{Contract}
-use Rattle.model.specs.Answers.{Answer, tree, pass, refusal}
+use Rattle.model.specs.Answers.{Answer, tree, pass, refusal, stopped}
 use Rattle.model.specs.Kinds.{kindOf, breaks}
 use Rattle.model.specs.Rounds.{kindAutomaton, ListedKind, kindAt}
-use Rattle.model.specs.Checking.{Checked, standing, check}
+use Rattle.model.specs.Checking.{Checked, stopHeight, standing, check}
 use Rattle.model.specs.Claims.{Breaks}
-use Rattle.model.specs.Meaning.{TreeOf, kindRounds, NoneBreaks, FirstBreaks, NoTreeBreaks, PassMeans, LeastBreaking, StopMeans}
+use Rattle.model.specs.Meaning.{TreeOf, kindRounds, NoneBreaks, FirstBreaks, NoTreeBreaks, PassMeans, LeastBreaking, Stops}
 use Rattle.model.proofs.Rounds.Growth.{rounds-beginning, agree-state, take-begins}
 use Rattle.model.proofs.Rounds.Covering.{treeState, kind-state, kinds-decided, HasState, ended-lists}
 use Rattle.model.proofs.Rounds.RowTrees.{rowTree, row-tree-begins, StandsFor, rounds-stand-for}
@@ -51,13 +51,13 @@ pub record TreeMeans (C : Contract) (L j : ℕ) : Type 0 where
 pub data Meaning (C : Contract) (L : ℕ) : Type 0 where
   a-pass : (n : ℕ) → check C L .answer ≡ pass n → PassMeans C L n → Meaning C L
   a-tree : (j : ℕ) → check C L .answer ≡ tree j → TreeMeans C L j → Meaning C L
-  a-stop : check C L .answer ≡ refusal 10 L → StopMeans C L → Meaning C L
+  a-stop : check C L .answer ≡ stopped L (stopHeight C L) → Stops C L → Meaning C L
 
 -- one of the three conditions holds, and not the other two
 pub data ExactlyOne (C : Contract) (L : ℕ) : Type 0 where
-  only-pass : (n : ℕ) → PassMeans C L n → (SomeBreaks C L → ⊥) → (StopMeans C L → ⊥) → ExactlyOne C L
-  only-tree : SomeBreaks C L → ((n : ℕ) → PassMeans C L n → ⊥) → (StopMeans C L → ⊥) → ExactlyOne C L
-  only-stop : StopMeans C L → ((n : ℕ) → PassMeans C L n → ⊥) → (SomeBreaks C L → ⊥) → ExactlyOne C L
+  only-pass : (n : ℕ) → PassMeans C L n → (SomeBreaks C L → ⊥) → (Stops C L → ⊥) → ExactlyOne C L
+  only-tree : SomeBreaks C L → ((n : ℕ) → PassMeans C L n → ⊥) → (Stops C L → ⊥) → ExactlyOne C L
+  only-stop : Stops C L → ((n : ℕ) → PassMeans C L n → ⊥) → (SomeBreaks C L → ⊥) → ExactlyOne C L
 
 -- the answer that stands
 pub standing-answer : (C : Contract) (L : ℕ) (answer : Answer) (rows : List (ListedKind C)) {c : Checked} → c ≡ standing C L answer rows → c .answer ≡ answer
@@ -73,6 +73,15 @@ pass-not-refusal e q = let z : _≡_ {A = ℕ} 0 1 = cc in omega arith
 
 pub tree-not-refusal : {a : Answer} {j number place : ℕ} → a ≡ tree j → a ≡ refusal number place → ⊥
 tree-not-refusal e q = let z : _≡_ {A = ℕ} 0 1 = cc in omega arith
+
+pub pass-not-stopped : {a : Answer} {n limit height : ℕ} → a ≡ pass n → a ≡ stopped limit height → ⊥
+pass-not-stopped e q = let z : _≡_ {A = ℕ} 0 1 = cc in omega arith
+
+pub tree-not-stopped : {a : Answer} {j limit height : ℕ} → a ≡ tree j → a ≡ stopped limit height → ⊥
+tree-not-stopped e q = let z : _≡_ {A = ℕ} 0 1 = cc in omega arith
+
+pub stopped-not-refusal : {a : Answer} {limit height number place : ℕ} → a ≡ stopped limit height → a ≡ refusal number place → ⊥
+stopped-not-refusal e q = let z : _≡_ {A = ℕ} 0 1 = cc in omega arith
 
 -- the tree of row j, read from the closing row buffer
 shown-tree : (C : Contract) (L j : ℕ) → j < length (kindRounds C L) → check C L ≡ standing C L (tree j) (take (suc j) (kindRounds C L))
@@ -103,7 +112,7 @@ module _ (C : Contract) where
           let same : i ≡ j = cc (standing-answer C L (tree i) (take (suc i) (kindRounds C L)) q) in
           rw same at (first-breaks-at C L i iL l b none)
       first-breaks e (passes end l none q) = absurd (pass-not-tree (standing-answer C L _ _ q) e)
-      first-breaks e (stops l none q) = absurd (tree-not-refusal e (standing-answer C L _ _ q))
+      first-breaks e (stops l none q) = absurd (tree-not-stopped e (standing-answer C L _ _ q))
 
       shows-first : FirstBreaks C L j → check C L .answer ≡ tree j
       shows-first w =
@@ -120,15 +129,17 @@ module _ (C : Contract) where
       go (passes end l none q) =
           let same : length (kindRounds C L) ≡ n = cc (standing-answer C L _ _ q) in
           rw same at q
-      go (stops l none q) = absurd (pass-not-refusal e (standing-answer C L _ _ q))
+      go (stops l none q) = absurd (pass-not-stopped e (standing-answer C L _ _ q))
 
-  pub stop-closes : (L : ℕ) → check C L .answer ≡ refusal 10 L → check C L ≡ standing C L (refusal 10 L) []
-  stop-closes L e = go (check-ends C L)
+  pub stop-closes : (L h : ℕ) → check C L .answer ≡ stopped L h → check C L ≡ standing C L (stopped L h) []
+  stop-closes L h e = go (check-ends C L)
     where
-      go : Ending C L (check C L) → check C L ≡ standing C L (refusal 10 L) []
-      go (shows i iL l b none q) = absurd (tree-not-refusal (standing-answer C L _ _ q) e)
-      go (passes end l none q) = absurd (pass-not-refusal (standing-answer C L _ _ q) e)
-      go (stops l none q) = q
+      go : Ending C L (check C L) → check C L ≡ standing C L (stopped L h) []
+      go (shows i iL l b none q) = absurd (tree-not-stopped (standing-answer C L _ _ q) e)
+      go (passes end l none q) = absurd (pass-not-stopped (standing-answer C L _ _ q) e)
+      go (stops l none q) =
+          let same : stopHeight C L ≡ h = cc (standing-answer C L _ _ q) in
+          rw same at q
 
 module _ (C : Contract) (breaksExactly : (t : Tree) → TreeOf C t → T (breaks C (kindOf C t)) ↔ Breaks C t) where
   -- the tree of a row breaks exactly if the row's kind does
@@ -186,7 +197,7 @@ module _ (C : Contract) (breaksExactly : (t : Tree) → TreeOf C t → T (breaks
             withinLimit = omega arith;
           })
       go (stops l none e) =
-          a-stop (standing-answer C L (refusal 10 L) [] e)
+          a-stop (standing-answer C L (stopped L (stopHeight C L)) [] e)
           (record { moreKinds = more-kinds C L L l; firstKeep = λ h. keep-in-rounds C L h l none })
 
   -- "A contract passes exactly if no tree of the input type has an output outside the output type and its kinds number at
@@ -197,7 +208,7 @@ module _ (C : Contract) (breaksExactly : (t : Tree) → TreeOf C t → T (breaks
       passed : check C L .answer ≡ pass n → Meaning C L → PassMeans C L n
       passed e (a-pass k q m) = let same : k ≡ n = cc in rw same at m
       passed e (a-tree j q m) = absurd (pass-not-tree e q)
-      passed e (a-stop q m) = absurd (pass-not-refusal e q)
+      passed e (a-stop q m) = absurd (pass-not-stopped e q)
 
       must-pass : PassMeans C L n → Meaning C L → check C L .answer ≡ pass n
       must-pass m (a-pass k q w) = q ∙ ap pass (count-unique C k n (w .counted) (m .counted))
@@ -212,7 +223,7 @@ module _ (C : Contract) (breaksExactly : (t : Tree) → TreeOf C t → T (breaks
       go : Meaning C L → TreeMeans C L j
       go (a-pass k q m) = absurd (pass-not-tree q e)
       go (a-tree i q m) = let same : i ≡ j = cc in rw same at m
-      go (a-stop q m) = absurd (tree-not-refusal e q)
+      go (a-stop q m) = absurd (tree-not-stopped e q)
 
   -- a tree is shown exactly if a breaking kind is among the first L
   pub tree-exactly : (L : ℕ) → ((j : ℕ) × (check C L .answer ≡ tree j)) ↔ SomeBreaks C L
@@ -230,15 +241,15 @@ module _ (C : Contract) (breaksExactly : (t : Tree) → TreeOf C t → T (breaks
       must-show w (a-stop q m) = absurd (false-test _ (m .firstKeep (w .round) .keeps (w .row) (w .belowLimit) (w .inside)) (w .breaking))
 
   -- "The check stops at its limit only as document 01 says.": "if there are more than L kinds and none of the first L breaks"
-  pub stop-exactly : (L : ℕ) → (check C L .answer ≡ refusal 10 L) ↔ StopMeans C L
-  stop-exactly L = (λ e. stopped e (check-means L), λ m. must-stop m (check-means L))
+  pub stop-exactly : (L : ℕ) → (check C L .answer ≡ stopped L (stopHeight C L)) ↔ Stops C L
+  stop-exactly L = (λ e. has-stopped e (check-means L), λ m. must-stop m (check-means L))
     where
-      stopped : check C L .answer ≡ refusal 10 L → Meaning C L → StopMeans C L
-      stopped e (a-pass k q m) = absurd (pass-not-refusal q e)
-      stopped e (a-tree j q m) = absurd (tree-not-refusal q e)
-      stopped e (a-stop q m) = m
+      has-stopped : check C L .answer ≡ stopped L (stopHeight C L) → Meaning C L → Stops C L
+      has-stopped e (a-pass k q m) = absurd (pass-not-stopped q e)
+      has-stopped e (a-tree j q m) = absurd (tree-not-stopped q e)
+      has-stopped e (a-stop q m) = m
 
-      must-stop : StopMeans C L → Meaning C L → check C L .answer ≡ refusal 10 L
+      must-stop : Stops C L → Meaning C L → check C L .answer ≡ stopped L (stopHeight C L)
       must-stop m (a-pass k q w) =
           absurd (omega (arith, count-bounds C (m .moreKinds .kinds) (m .moreKinds .areKinds) k (w .counted), m .moreKinds .more, w .withinLimit))
       must-stop m (a-tree j q w) =
@@ -251,6 +262,6 @@ module _ (C : Contract) (breaksExactly : (t : Tree) → TreeOf C t → T (breaks
   exactly-one L = go (check-means L)
     where
       go : Meaning C L → ExactlyOne C L
-      go (a-pass n q m) = only-pass n m (λ w. pass-not-tree q (tree-exactly L .1 w .1)) (λ w. pass-not-refusal q (stop-exactly L .1 w))
-      go (a-tree j q m) = only-tree (tree-exactly L .0 (j, q)) (λ n w. pass-not-tree (pass-exactly L n .1 w) q) (λ w. tree-not-refusal q (stop-exactly L .1 w))
-      go (a-stop q m) = only-stop m (λ n w. pass-not-refusal (pass-exactly L n .1 w) q) (λ w. tree-not-refusal (tree-exactly L .1 w .1) q)
+      go (a-pass n q m) = only-pass n m (λ w. pass-not-tree q (tree-exactly L .1 w .1)) (λ w. pass-not-stopped q (stop-exactly L .1 w))
+      go (a-tree j q m) = only-tree (tree-exactly L .0 (j, q)) (λ n w. pass-not-tree (pass-exactly L n .1 w) q) (λ w. tree-not-stopped q (stop-exactly L .1 w))
+      go (a-stop q m) = only-stop m (λ n w. pass-not-stopped (pass-exactly L n .1 w) q) (λ w. tree-not-stopped (tree-exactly L .1 w .1) q)

@@ -34,8 +34,8 @@ room-passes C lent room = (λ (n, e). means .passExactly n .0 e .keeps, λ keeps
     go : NoTreeBreaks C → OneOfThree (lent .limit) (checkOf C lent .answer) → Passes C lent
     go keeps (is-pass n e) = (n, e)
     go keeps (is-tree j e) = let shown = means .treeLeast j e in absurd (keeps _ (shown .over) (shown .breaking))
-    go keeps (is-stop e) =
-        let more = means .stopExactly .0 e .moreKinds in
+    go keeps (is-stop h e) =
+        let more = means .stopExactly h .0 e .stops .moreKinds in
         absurd (omega (arith, count-bounds C (more .kinds) (more .areKinds) (room .kinds) (room .counted), more .more, room .within))
 
 module _ (C : Contract) where

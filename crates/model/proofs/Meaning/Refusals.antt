@@ -4,7 +4,7 @@ use mathlib.Core.List.{List, [], _∷_}
 use Prim.Native.Nat.{ℕ}
 use native.Mathlib.Omega.{arith}
 use Rattle.model.specs.Tables.{Contract}
-use Rattle.model.specs.Answers.{Verdict, fine, refused, Answer, judged, tree, pass, written, refusal, given}
+use Rattle.model.specs.Answers.{Verdict, fine, refused, Answer, judged, tree, pass, written, refusal, stopped, given}
 use Rattle.model.specs.Admission.{admission, admit}
 use Rattle.model.specs.Judging.{Judged, judgingVerdict, judging}
 use Rattle.model.specs.Checking.{Checked, standing, check, checkingVerdict, checking}
@@ -15,7 +15,7 @@ use Rattle.model.specs.Refusals.{Reason, FirstReason, RefusesFor, Refuse
 use Rattle.model.proofs.Laws.Answers.{refusal-admits-nothing, given-fine, given-refused}
 use Rattle.model.proofs.Rounds.Stopping.{Ending, shows, passes, stops, check-ends}
 use Rattle.model.proofs.Meaning.Runs.{running-refusal}
-use Rattle.model.proofs.Meaning.Verdicts.{admission-refusals, judging-refusals, checking-refusals, running-refusals, writing-refusals, checking-numbers, running-numbers}
+use Rattle.model.proofs.Meaning.Verdicts.{admission-refusals, judging-refusals, checking-refusals, running-refusals, writing-refusals, running-numbers}
 
 -- an operation r that gives its verdict's refusal, with the buffers as they were lent, or else a, which is no refusal of these numbers
 module _ {R : Type 0} (r : R) (v : Verdict) (onRefusal : ℕ → ℕ → R) (a : R) (gives : r ≡ given v onRefusal a) (answer : R → Answer)
@@ -66,26 +66,26 @@ tree-no-refusal e = let z : _≡_ {A = ℕ} 0 1 = cc in omega arith
 pass-no-refusal : {n number place : ℕ} → pass n ≡ refusal number place → ⊥
 pass-no-refusal e = let z : _≡_ {A = ℕ} 0 1 = cc in omega arith
 
+stop-no-refusal : {limit height number place : ℕ} → stopped limit height ≡ refusal number place → ⊥
+stop-no-refusal e = let z : _≡_ {A = ℕ} 0 1 = cc in omega arith
+
 judged-no-refusal : {result taken number place : ℕ} → judged result taken ≡ refusal number place → ⊥
 judged-no-refusal e = let z : _≡_ {A = ℕ} 0 1 = cc in omega arith
 
 written-no-refusal : {n number place : ℕ} → written n ≡ refusal number place → ⊥
 written-no-refusal e = let z : _≡_ {A = ℕ} 0 1 = cc in omega arith
 
--- a check that is let in refuses by 10 only
-check-refuses-late : (C : Contract) (L number place : ℕ) → check C L .answer ≡ refusal number place → (number ≡ 10 → ⊥) → ⊥
+-- a check that is let in passes, shows a tree or stops
+check-no-refusal : (C : Contract) (L number place : ℕ) → check C L .answer ≡ refusal number place → ⊥
 unfolding standing
-check-refuses-late C L number place e other = go (check-ends C L)
+check-no-refusal C L number place e = go (check-ends C L)
   where
     go : Ending C L (check C L) → ⊥
     go (shows j l i b n f) = tree-no-refusal (sym (ap (λ (c : Checked). c .answer) f) ∙ e)
     go (passes d l n f) = pass-no-refusal (sym (ap (λ (c : Checked). c .answer) f) ∙ e)
-    go (stops l n f) =
-        let said : refusal 10 L ≡ refusal number place = sym (ap (λ (c : Checked). c .answer) f) ∙ e in
-        let ten : 10 ≡ number = cc in
-        other (sym ten)
+    go (stops l n f) = stop-no-refusal (sym (ap (λ (c : Checked). c .answer) f) ∙ e)
 
--- and a run by 13 to 15
+-- a run is refused by 13 to 15
 run-refuses-late : {procedures free number place : ℕ} → RunRefusal procedures free number place → NotOfRun number → ⊥
 run-refuses-late (no-rule e l) early = early (omega arith) (omega arith)
 run-refuses-late (no-row e l) early = early (omega arith) (omega arith)
@@ -102,10 +102,9 @@ operation-refusals =
           all-refuse (judging C numbers buffer) (judgingVerdict C numbers buffer) _ _ refl (λ (j : Judged). j .answer) (λ (j : Judged). j .words ∷ [])
           (buffer ∷ []) (λ n p. (refl, refl)) _ (judging-refusals C numbers buffer) (λ n p e. judged-no-refusal e);
       ofChecking = λ C L rows words.
-          early-refuses (checking C L rows words) (checkingVerdict C L rows words) _ _ refl (λ (c : Checked). c .answer)
-          (λ (c : Checked). c .rows ∷ c .words ∷ []) (rows ∷ words ∷ []) (λ n p. (refl, refl)) _ (checking-refusals C L rows words) (λ n. n ≡ 10 → ⊥)
-          (λ n p f. checking-numbers C L rows words n p (checking-refusals C L rows words .refuses n p .1 f))
-          (λ n p f e meant. check-refuses-late C L n p (sym (ap (λ (c : Checked). c .answer) (given-fine _ _ _ f)) ∙ e) meant);
+          all-refuse (checking C L rows words) (checkingVerdict C L rows words) _ _ refl (λ (c : Checked). c .answer)
+          (λ (c : Checked). c .rows ∷ c .words ∷ []) (rows ∷ words ∷ []) (λ n p. (refl, refl)) _ (checking-refusals C L rows words)
+          (λ n p e. check-no-refusal C L n p e);
       ofRunning = λ C numbers buffer.
           early-refuses (running C numbers buffer) (runningVerdict C numbers buffer) _ _ refl (λ (r : Ran). r .answer) (λ (r : Ran). r .rows ∷ [])
           (buffer ∷ []) (λ n p. (refl, refl)) _ (running-refusals C numbers buffer) NotOfRun

@@ -246,13 +246,6 @@ writing-refusals rows row buffer =
 
 -- The numbers of these refusals: none is one that comes of the work itself
 
-pub checking-numbers : (C : Contract) (L : ℕ) (rowBuffer wordBuffer : List ℕ)
-    → Numbers (λ number. number ≡ 10 → ⊥) (checkingVerdict C L rowBuffer wordBuffer)
-unfolding checkingVerdict
-checking-numbers C L rowBuffer wordBuffer =
-    then-numbers _ _ _ (λ number place e ten. not-late number (admission-numbers C number place e) (omega arith) (omega arith))
-    (refuse-first-numbers _ 9 _ 3 (λ ten. omega arith))
-
 -- of a document: 11 and 12
 pub document-numbers : (P : ℕ → Type 0) (S : ℕ) (numbers : List ℕ) → P 11 → P 12 → Numbers P (leadingVerdict S numbers)
 unfolding leadingVerdict faultOf

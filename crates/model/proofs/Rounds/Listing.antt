@@ -54,6 +54,14 @@ module _ (A : TreeAutomaton) where
       go (inr l) true q = inl (ap (λ (rows : List (Listed A)). round A rows) (adds-nothing (rounds A h) (eqb-true _ _ q)))
       go (inr l) false q = inr (omega (arith, begins-length (round-begins A (rounds A h)), eqb-false (length (round A (rounds A h))) (length (rounds A h)) q))
 
+  -- L rounds list as many rows as any beginning has, or more than L
+  pub rounds-enough : (L : ℕ) {rows : List (Listed A)} → Beginning A rows → (L < length (rounds A L)) ⊎ (length rows ≤ length (rounds A L))
+  rounds-enough L {rows} start = go (ended-or-longer L)
+    where
+      go : Ended L ⊎ (L < length (rounds A L)) → (L < length (rounds A L)) ⊎ (length rows ≤ length (rounds A L))
+      go (inl e) = inr (ended-longest L e start)
+      go (inr l) = inl l
+
   pub short-ended : (h : ℕ) → length (rounds A h) ≤ h → Ended h
   short-ended h l = go (ended-or-longer h)
     where

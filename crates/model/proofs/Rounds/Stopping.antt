@@ -11,14 +11,15 @@ use lib.ListN.{length, take}
 use lib.Seq.{getD-append-seam}
 use Rattle.foundation.specs.Search.{first, first-at, first-none, first-before, first-hit}
 use Rattle.model.specs.Tables.{Contract}
-use Rattle.model.specs.Answers.{fine, _then_, refuseFirst, refuseIf, given, tree, pass, refusal}
+use Rattle.model.specs.Answers.{fine, _then_, refuseFirst, refuseIf, given, tree, pass, stopped}
 use Rattle.model.specs.Admission.{admission}
 use Rattle.model.specs.Kinds.{breaks}
 use Rattle.model.specs.Rounds.{kindAutomaton, emptyRow, ListedKind, kindAt}
-use Rattle.model.specs.Checking.{greatestLimit, Checked, standing, firstBreaking, answered, check, limitWrong, checkingVerdict, checking}
-use Rattle.model.specs.Meaning.{kindRounds, NoneBreaks, Fits}
+use Rattle.model.specs.Checking.{greatestLimit, Checked, stopHeight, standing, firstBreaking, answered, check, limitWrong, checkingVerdict, checking}
+use Rattle.model.specs.Meaning.{kindRounds, NoneBreaks, LastHeld, Fits}
 use Rattle.model.proofs.Rounds.Growth.{Begins, begins-state, Beginning, agree-state, agree-take, rounds-beginning}
-use Rattle.model.proofs.Rounds.Listing.{Ended, ended-or-longer, ended-longest, ended-same, listing-rounds}
+use Rattle.model.proofs.Rounds.Listing.{Ended, ended-or-longer, rounds-enough, ended-longest, ended-same, listing-rounds}
+use Rattle.model.proofs.Rounds.Heights.{stop-height-at}
 
 module _ (C : Contract) where
   -- in a longer list, and after a row that does not break was added
@@ -58,9 +59,10 @@ module _ (C : Contract) where
   answered-none : (L : ℕ) (rows : List (ListedKind C)) → NoneBreaks C L rows → first (λ i. breaks C (kindAt C rows i)) (min L (length rows)) ≡ min L (length rows)
   answered-none L rows none = first-none (λ i. breaks C (kindAt C rows i)) (min L (length rows)) (λ i l. none .keeps i (omega arith) (omega arith))
 
-  answered-refusal : (L : ℕ) (rows : List (ListedKind C)) → L < length rows → NoneBreaks C L rows → answered C L rows ≡ standing C L (refusal 10 L) []
+  answered-stop : (L : ℕ) (rows : List (ListedKind C)) → L < length rows → NoneBreaks C L rows
+      → answered C L rows ≡ standing C L (stopped L (stopHeight C L)) []
   unfolding answered firstBreaking
-  answered-refusal L rows l none =
+  answered-stop L rows l none =
       rw (answered-none L rows none, le-ltb (min L (length rows)) (min L (length rows)) (omega arith), lt-ltb L (length rows) l)
 
   answered-pass : (L : ℕ) (rows : List (ListedKind C)) → length rows ≤ L → NoneBreaks C L rows → answered C L rows ≡ standing C L (pass (length rows)) rows
@@ -76,7 +78,7 @@ module _ (C : Contract) where
     passes : Ended (kindAutomaton C) L → length (kindRounds C L) ≤ L → NoneBreaks C L (kindRounds C L)
         → c ≡ standing C L (pass (length (kindRounds C L))) (kindRounds C L)
         → Ending L c
-    stops : L < length (kindRounds C L) → NoneBreaks C L (kindRounds C L) → c ≡ standing C L (refusal 10 L) [] → Ending L c
+    stops : L < length (kindRounds C L) → NoneBreaks C L (kindRounds C L) → c ≡ standing C L (stopped L (stopHeight C L)) [] → Ending L c
 
   pub check-ends : (L : ℕ) → Ending L (check C L)
   check-ends L =
@@ -88,7 +90,7 @@ module _ (C : Contract) where
           record { keeps = λ i l r. first-before (λ k. breaks C (kindAt C (kindRounds C L) k)) (min L (length (kindRounds C L))) i (omega arith) }
 
       rest : NoneBreaks C L (kindRounds C L) → Ended (kindAutomaton C) L ⊎ (L < length (kindRounds C L)) → Dec (L < length (kindRounds C L)) → Ending L (check C L)
-      rest none f (yes l) = stops l none (check-answered L ∙ answered-refusal L (kindRounds C L) l none)
+      rest none f (yes l) = stops l none (check-answered L ∙ answered-stop L (kindRounds C L) l none)
       rest none (inl e) (no l) = passes e (omega arith) none (check-answered L ∙ answered-pass L (kindRounds C L) (omega arith) none)
       rest none (inr k) (no l) = absurd (omega arith)
 
@@ -103,14 +105,6 @@ module _ (C : Contract) where
       go j e (no l) f =
           let none : NoneBreaks C L (kindRounds C L) = record { keeps = λ i below r. none-before j e .keeps i (omega arith) r } in
           rest none f (decLt L (length (kindRounds C L)))
-
-  -- the rounds that a check makes list as many rows as any beginning has, or more than the limit
-  longer : (L : ℕ) {rows : List (ListedKind C)} → Beginning (kindAutomaton C) rows → (L < length (kindRounds C L)) ⊎ (length rows ≤ length (kindRounds C L))
-  longer L {rows} start = go (ended-or-longer (kindAutomaton C) L)
-    where
-      go : Ended (kindAutomaton C) L ⊎ (L < length (kindRounds C L)) → (L < length (kindRounds C L)) ⊎ (length rows ≤ length (kindRounds C L))
-      go (inl e) = inr (ended-longest (kindAutomaton C) L e start)
-      go (inr l) = inl l
 
   -- what holds of one beginning holds of another, as far as both go
   same-breaks : (a b : List (ListedKind C)) → Beginning (kindAutomaton C) a → Beginning (kindAutomaton C) b → (i : ℕ) → i < length a → i < length b
@@ -129,7 +123,7 @@ module _ (C : Contract) where
       → breaks C (kindAt C rows j) ≡ true
       → NoneBreaks C j rows
       → check C L ≡ standing C L (tree j) (take (suc j) rows)
-  check-tree L rows start j jL jr b none = go (longer L start)
+  check-tree L rows start j jL jr b none = go (rounds-enough (kindAutomaton C) L start)
     where
       by-rounds : j < length (kindRounds C L) → check C L ≡ standing C L (tree j) (take (suc j) rows)
       by-rounds l =
@@ -143,17 +137,22 @@ module _ (C : Contract) where
       go (inl l) = by-rounds (omega arith)
       go (inr l) = by-rounds (omega arith)
 
-  -- more rows than the limit, of which none of the first L breaks
-  pub check-refusal : (L : ℕ) (rows : List (ListedKind C)) → Beginning (kindAutomaton C) rows → L < length rows → NoneBreaks C L rows
-      → check C L ≡ standing C L (refusal 10 L) []
-  check-refusal L rows start l none = go (longer L start)
+  -- the limit holds the list of round h and not that of the next, of which none of the first L rows breaks
+  pub check-stop : (L h : ℕ) → LastHeld C L h → NoneBreaks C L (kindRounds C (suc h)) → check C L ≡ standing C L (stopped L h) []
+  check-stop L h last none = go (rounds-enough (kindAutomaton C) L start)
     where
-      by-rounds : L < length (kindRounds C L) → check C L ≡ standing C L (refusal 10 L) []
-      by-rounds k = check-answered L ∙ answered-refusal L (kindRounds C L) k (none-of-rounds L L rows start (omega arith) none)
+      start : Beginning (kindAutomaton C) (kindRounds C (suc h))
+      start = rounds-beginning (kindAutomaton C) (suc h)
 
-      go : (L < length (kindRounds C L)) ⊎ (length rows ≤ length (kindRounds C L)) → check C L ≡ standing C L (refusal 10 L) []
+      by-rounds : L < length (kindRounds C L) → check C L ≡ standing C L (stopped L h) []
+      by-rounds k =
+          check-answered L
+          ∙ answered-stop L (kindRounds C L) k (none-of-rounds L L (kindRounds C (suc h)) start (omega (arith, last .leftOut)) none)
+          ∙ ap (λ (height : ℕ). standing C L (stopped L height) []) (stop-height-at C L h last)
+
+      go : (L < length (kindRounds C L)) ⊎ (length (kindRounds C (suc h)) ≤ length (kindRounds C L)) → check C L ≡ standing C L (stopped L h) []
       go (inl k) = by-rounds k
-      go (inr k) = by-rounds (omega arith)
+      go (inr k) = by-rounds (omega (arith, last .leftOut))
 
   -- a round that adds nothing to at most L rows, of which none breaks
   pub check-pass : (L h : ℕ) → Ended (kindAutomaton C) h → length (kindRounds C h) ≤ L → NoneBreaks C (length (kindRounds C h)) (kindRounds C h)
