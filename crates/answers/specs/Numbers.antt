@@ -1,6 +1,6 @@
 -- "For an answer that is an enum, a definition gives this paper's number and values for each case."
 use Prim.Native.Nat.{ℕ}
-use Rattle.model.specs.Answers.{Answer, refusal, admitted, judged, pass, tree, ran, written}
+use Rattle.model.specs.Answers.{Answer, refusal, stopped, admitted, judged, pass, tree, ran, written}
 use Rattle.model.specs.Running.{mostCalls}
 use Rattle.answers.specs.declared.NodeFault.{NodeFault}
 use Rattle.answers.specs.declared.NodeFault.the-variants as node
@@ -69,7 +69,7 @@ checkingAnswer (checking.Contract fault) = contractRefusal fault
 checkingAnswer (checking.Buffer place) = refusal 9 place
 checkingAnswer (checking.Pass count) = pass count
 checkingAnswer (checking.Tree row) = tree row
-checkingAnswer (checking.Stopped limit) = refusal 10 limit
+checkingAnswer (checking.Stopped limit height) = stopped limit height
 
 abbrev pub runningAnswer : RunningAnswer → Answer
 runningAnswer (running.Contract fault) = contractRefusal fault
@@ -96,3 +96,4 @@ numbered (answer.Pass count) = pass count
 numbered (answer.Ran root used taken) = ran root used taken
 numbered (answer.Written count) = written count
 numbered (answer.Refused number place) = refusal number place
+numbered (answer.Stopped limit height) = stopped limit height

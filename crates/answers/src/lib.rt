@@ -81,8 +81,8 @@ pub enum CheckingAnswer {
     Pass(usize),
     // The tree of this row breaks the contract.
     Tree(usize),
-    // There are more kinds than the limit: the limit.
-    Stopped(usize),
+    // There are more kinds than the limit: the limit, and the greatest height up to which every tree has its kind among those listed.
+    Stopped(usize, usize),
 }
 
 // What running says.

@@ -22,6 +22,8 @@ pub enum Answer {
     Ran(usize, usize, usize),
     Written(usize),
     Refused(usize, usize),
+    // Refusal 10: the limit and the height.
+    Stopped(usize, usize),
 }
 
 // The number of a node's fault.
@@ -100,7 +102,7 @@ pub fn of_checking(answer: CheckingAnswer) -> Answer
         CheckingAnswer::Buffer(place) => Answer::Refused(9, place),
         CheckingAnswer::Pass(count) => Answer::Pass(count),
         CheckingAnswer::Tree(row) => Answer::Tree(row),
-        CheckingAnswer::Stopped(limit) => Answer::Refused(10, limit),
+        CheckingAnswer::Stopped(limit, height) => Answer::Stopped(limit, height),
     }
 }
 

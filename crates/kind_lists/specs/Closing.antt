@@ -1,4 +1,4 @@
--- The end of a check: how the last progress and the buffers, cleared after the rows that stand, give what the model says.
+-- The end of a check: how the end of the list and the buffers, cleared after the rows that stand, give what the model says.
 use mathlib.Core.Path.{_≡_, refl, ap, subst, sym, _∙_}
 use mathlib.Core.List.{List, []}
 use Prim.Native.Nat.{ℕ, suc, _+_, _*_}
@@ -7,26 +7,26 @@ use lib.ListN.{length, take}
 use lib.Seq.{take-length}
 use Rattle.foundation.specs.Lists.{zeroFilled}
 use Rattle.model.specs.Tables.{Contract}
-use Rattle.model.specs.Answers.{Answer, pass, tree, refusal}
+use Rattle.model.specs.Answers.{Answer, pass, tree, stopped}
 use Rattle.model.specs.Rounds.{kindAutomaton, ListedKind, rounds}
 use Rattle.model.specs.Checking.{Checked, rowNumbers, kindNumbers, standing, check}
 use Rattle.model.specs.Meaning.{NoneBreaks}
-use Rattle.model.proofs.Rounds.Stopping.{check-tree, check-refusal, check-pass}
+use Rattle.model.proofs.Rounds.Stopping.{check-tree, check-stop, check-pass}
 use Rattle.kind_lists.specs.Held.{Holds}
-use Rattle.kind_lists.specs.Outcomes.{Outcome, Passed}
-use Rattle.kind_lists.specs.declared.Progress.{Progress}
-use Rattle.kind_lists.specs.declared.Progress.the-variants as progress
+use Rattle.kind_lists.specs.Outcomes.{Conclusion}
+use Rattle.kind_lists.specs.declared.Ending.{Ending}
+use Rattle.kind_lists.specs.declared.Ending.the-variants as ending
 
 -- how many rows stand, and the answer
-abbrev pub rowsStanding : Progress → ℕ
-rowsStanding (progress.Going n) = n
-rowsStanding (progress.Breaks j) = j + 1
-rowsStanding progress.Full = 0
+abbrev pub rowsStanding : Ending → ℕ
+rowsStanding (ending.All n) = n
+rowsStanding (ending.Breaks j) = j + 1
+rowsStanding (ending.Full h) = 0
 
-abbrev pub answerAfter : ℕ → Progress → Answer
-answerAfter limit (progress.Going n) = pass n
-answerAfter limit (progress.Breaks j) = tree j
-answerAfter limit progress.Full = refusal 10 limit
+abbrev pub answerAfter : ℕ → Ending → Answer
+answerAfter limit (ending.All n) = pass n
+answerAfter limit (ending.Breaks j) = tree j
+answerAfter limit (ending.Full h) = stopped limit h
 
 -- an answer and closing buffers are those of a check
 pub record Gives (checked : Checked) (answer : Answer) (rows words : List ℕ) : Type 0 where
@@ -52,18 +52,18 @@ module _ (C : Contract) (limit : ℕ) (rows words : List ℕ) where
   unfolding standing rowNumbers kindNumbers
   nothing answer rowRoom wordRoom = record { answered = refl; rowsClosed = rw rowRoom; wordsClosed = rw wordRoom }
 
-  pub closes : (p : Progress) → Outcome C (λ n. Passed C limit n rows words) limit rows words p
-      → Gives (check C limit) (answerAfter limit p) (zeroFilled (length rows) (take (3 * rowsStanding p) rows)) (zeroFilled (length words) (take (5 * rowsStanding p) words))
-  closes (progress.Going n) o =
+  pub closes : (e : Ending) → Conclusion C limit rows words e
+      → Gives (check C limit) (answerAfter limit e) (zeroFilled (length rows) (take (3 * rowsStanding e) rows)) (zeroFilled (length words) (take (5 * rowsStanding e) words))
+  closes (ending.All n) o =
       let e = check-pass C limit (o .height) (o .ended) (o .holds .fits) (subst (λ (k : ℕ). NoneBreaks C k (rounds (kindAutomaton C) (o .height))) (o .counted) (o .none)) in
       rw e (subst (λ (k : ℕ). Gives (standing C limit (pass (length (rounds (kindAutomaton C) (o .height)))) (rounds (kindAutomaton C) (o .height))) (pass k) (zeroFilled (length rows) (take (3 * n) rows)) (zeroFilled (length words) (take (5 * n) words))) (sym (o .counted))
       (filled (pass (length (rounds (kindAutomaton C) (o .height)))) (rounds (kindAutomaton C) (o .height)) (o .holds) n (o .counted)))
-  closes (progress.Breaks j) o =
+  closes (ending.Breaks j) o =
       let last = o .last in
       let fits = o .holds .fits in
       let e = check-tree C limit (o .list) (o .beginning) j (omega arith) (omega arith) (o .broken) (o .none) in
       let whole : take (suc j) (o .list) ≡ o .list = ap (λ (k : ℕ). take k (o .list)) (sym last) ∙ take-length (o .list) in
       rw (e, whole) (filled (tree j) (o .list) (o .holds) (j + 1) (omega arith))
-  closes progress.Full o =
-      let e = check-refusal C limit (o .list) (o .beginning) (o .over) (o .none) in
-      rw e (nothing (refusal 10 limit) (o .rowRoom) (o .wordRoom))
+  closes (ending.Full h) o =
+      let e = check-stop C limit h (o .last) (o .overfull .none) in
+      rw e (nothing (stopped limit h) (o .overfull .rowRoom) (o .overfull .wordRoom))

@@ -12,10 +12,10 @@ use lib.Seq.{getD-append-seam}
 use Rattle.foundation.specs.Tests.{choose}
 use Rattle.model.specs.Tables.{Contract}
 use Rattle.model.specs.Kinds.{breaks}
-use Rattle.model.specs.Rounds.{kindAutomaton, ListedKind, kindAt, emptyRow, added}
+use Rattle.model.specs.Rounds.{kindAutomaton, ListedKind, kindAt, emptyRow, added, rounds}
 use Rattle.model.specs.Meaning.{NoneBreaks}
 use Rattle.model.proofs.Laws.Established.{Established}
-use Rattle.model.proofs.Rounds.Growth.{Beginning, added-begins, added-new}
+use Rattle.model.proofs.Rounds.Growth.{Begins, begins-length, added-begins, added-new}
 use Rattle.model.proofs.Rounds.Covering.{kinds-decided}
 use Rattle.model.proofs.Rounds.Skipping.{added-listed}
 use Rattle.model.proofs.Rounds.Stopping.{none-longer, none-snoc}
@@ -44,7 +44,8 @@ module _ (C : Contract) (known : Established C) (v : Verdicts) (verdicts : Verdi
   abbrev offer : Offering
   offer = offering v limit n s i j (kind ++ (0 ∷ [])) slots rows words
 
-  module _ (begins : Beginning (kindAutomaton C) grown) where
+  -- in a round
+  module _ (round : ℕ) (begins : Begins (kindAutomaton C) grown (rounds (kindAutomaton C) round)) where
     -- listed already
     old-kind : kindListed words n (kind ++ (0 ∷ [])) ≡ true → Unbroken C limit n slots rows words grown
     old-kind t =
@@ -64,13 +65,11 @@ module _ (C : Contract) (known : Established C) (v : Verdicts) (verdicts : Verdi
       front-keeps = let counted = u .counted in none-longer C n (added-begins (kindAutomaton C) list row) (omega arith) (u .none)
 
       -- no row is left for it
-      no-room : n ≡ limit → Overfull C limit rows words
+      no-room : n ≡ limit → Overfull C limit round rows words
       no-room e =
           record {
-            list = grown;
-            beginning = begins;
-            over = omega (arith, longer);
-            none = rw e at front-keeps;
+            over = omega (arith, longer, begins-length begins);
+            none = none-longer C limit begins (omega (arith, longer)) (rw e at front-keeps);
             few = u .holds .few;
             rowRoom = u .holds .rowRoom;
             wordRoom = u .holds .wordRoom;
@@ -99,12 +98,12 @@ module _ (C : Contract) (known : Established C) (v : Verdicts) (verdicts : Verdi
             one-entered words n slots (kind ++ (0 ∷ [])) (u .entered) (omega (arith, u .holds .few)) (omega (arith, u .holds .wordRoom)) t
 
         by-verdict : (b : Bool) → breaking (v .accepted) (v .refused) (kind ++ (0 ∷ [])) ≡ b
-            → Outcome C (λ m. Unbroken C limit m (set slots (slotOf words slots (kind ++ (0 ∷ []))) (entryOf (kind ++ (0 ∷ [])) n)) (withRow rows n s i j) (withKind words n (kind ++ (0 ∷ []))) grown) limit (withRow rows n s i j) (withKind words n (kind ++ (0 ∷ [])))
+            → Outcome C (λ m. Unbroken C limit m (set slots (slotOf words slots (kind ++ (0 ∷ []))) (entryOf (kind ++ (0 ∷ [])) n)) (withRow rows n s i j) (withKind words n (kind ++ (0 ∷ []))) grown) limit round (withRow rows n s i j) (withKind words n (kind ++ (0 ∷ [])))
             (choose b (progress.Breaks n) (progress.Going (n + 1)))
         by-verdict true e =
             record {
               list = grown;
-              beginning = begins;
+              beginning = record { round = round; begins = begins };
               last = longer ∙ add-one n;
               holds = held;
               broken = ap (λ (k : List ℕ). breaks C k) last-row ∙ verdict true e;
@@ -116,18 +115,18 @@ module _ (C : Contract) (known : Established C) (v : Verdicts) (verdicts : Verdi
             record { counted = sym longer; entered = entered; holds = held; none = rw (add-one n, appended, u .counted) more }
 
     by-room : kindListed words n (kind ++ (0 ∷ [])) ≡ false → (b : Bool) → eqb n limit ≡ b
-        → Outcome C (λ m. Unbroken C limit m (offer .slots) (offer .rows) (offer .words) grown) limit (offer .rows) (offer .words) (offer .answer)
+        → Outcome C (λ m. Unbroken C limit m (offer .slots) (offer .rows) (offer .words) grown) limit round (offer .rows) (offer .words) (offer .answer)
     unfolding offering
     by-room t true e = rw (t, e) (no-room t (eqb-true n limit e))
     by-room t false e = rw (t, e) (by-verdict t (eqb-false n limit e) (breaking (v .accepted) (v .refused) (kind ++ (0 ∷ []))) refl)
 
     by-list : (b : Bool) → kindListed words n (kind ++ (0 ∷ [])) ≡ b
-        → Outcome C (λ m. Unbroken C limit m (offer .slots) (offer .rows) (offer .words) grown) limit (offer .rows) (offer .words) (offer .answer)
+        → Outcome C (λ m. Unbroken C limit m (offer .slots) (offer .rows) (offer .words) grown) limit round (offer .rows) (offer .words) (offer .answer)
     unfolding offering
     by-list true t = rw t (old-kind t)
     by-list false t = by-room t (eqb n limit) refl
 
     -- .. as the code offers it
     pub offered : (r : Progress) (slots′ rows′ words′ : List ℕ) → Becomes offer r slots′ rows′ words′
-        → Outcome C (λ m. Unbroken C limit m slots′ rows′ words′ grown) limit rows′ words′ r
+        → Outcome C (λ m. Unbroken C limit m slots′ rows′ words′ grown) limit round rows′ words′ r
     offered r slots′ rows′ words′ b = rw (b .answer, b .slots, b .rows, b .words) (by-list (kindListed words n (kind ++ (0 ∷ []))) refl)

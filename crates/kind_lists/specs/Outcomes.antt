@@ -1,5 +1,5 @@
 -- How offers end: the buffers hold a list of which no row breaks the contract, or one whose last row does, or the list has more
--- rows than there is room for.
+-- rows than there is room for; and how the list ends.
 use mathlib.Core.Path.{_≡_}
 use mathlib.Core.Bool.{true}
 use mathlib.Core.List.{List}
@@ -8,13 +8,21 @@ use lib.ListN.{length}
 use Rattle.model.specs.Tables.{Contract}
 use Rattle.model.specs.Kinds.{breaks}
 use Rattle.model.specs.Rounds.{kindAutomaton, ListedKind, kindAt, rounds}
-use Rattle.model.specs.Meaning.{NoneBreaks}
+use Rattle.model.specs.Meaning.{NoneBreaks, LastHeld}
 use Rattle.model.proofs.Rounds.Growth.{Beginning}
 use Rattle.model.proofs.Rounds.Listing.{Ended}
 use Rattle.kind_slots.specs.Slots.{Entered}
 use Rattle.kind_lists.specs.Held.{Holds}
 use Rattle.kind_lists.specs.declared.Progress.{Progress}
 use Rattle.kind_lists.specs.declared.Progress.the-variants as progress
+use Rattle.kind_lists.specs.declared.Ending.{Ending}
+use Rattle.kind_lists.specs.declared.Ending.the-variants as ending
+
+-- how the list ends where the offers of a round end so, over rows that have the kinds of all trees up to a height
+abbrev pub endingOf : ℕ → Progress → Ending
+endingOf height (progress.Going n) = ending.All n
+endingOf height (progress.Breaks j) = ending.Breaks j
+endingOf height progress.Full = ending.Full height
 
 module _ (C : Contract) where
   -- the buffers hold a list of n rows, the slots are its slots, and no row breaks the contract
@@ -33,27 +41,25 @@ module _ (C : Contract) where
     pub broken : breaks C (kindAt C list j) ≡ true
     pub none : NoneBreaks C j list
 
-  -- there are more kinds than rows, and no row breaks the contract
-  pub record Overfull (limit : ℕ) (rows words : List ℕ) : Type 0 where
-    pub list : List (ListedKind C)
-    pub beginning : Beginning (kindAutomaton C) list
-    pub over : limit < length list
-    pub none : NoneBreaks C limit list
+  -- a round lists more kinds than there are rows, and no row breaks the contract
+  pub record Overfull (limit round : ℕ) (rows words : List ℕ) : Type 0 where
+    pub over : limit < length (rounds (kindAutomaton C) round)
+    pub none : NoneBreaks C limit (rounds (kindAutomaton C) round)
     pub few : limit ≤ 512
     pub rowRoom : length rows ≡ 3 * limit
     pub wordRoom : length words ≡ 5 * limit
 
-  -- the end of a stretch of offers: there is more to do with the list of n rows, or the answer is known
-  abbrev pub Outcome : (ℕ → Type 0) → (limit : ℕ) (rows words : List ℕ) → Progress → Type 0
-  Outcome Going limit rows words (progress.Going n) = Going n
-  Outcome Going limit rows words (progress.Breaks j) = Broken limit j rows words
-  Outcome Going limit rows words progress.Full = Overfull limit rows words
+  -- the end of a stretch of offers in a round: there is more to do with the list of n rows, or the answer is known
+  abbrev pub Outcome : (ℕ → Type 0) → (limit round : ℕ) (rows words : List ℕ) → Progress → Type 0
+  Outcome Going limit round rows words (progress.Going n) = Going n
+  Outcome Going limit round rows words (progress.Breaks j) = Broken limit j rows words
+  Outcome Going limit round rows words progress.Full = Overfull limit round rows words
 
-  pub outcome-map : {G G′ : ℕ → Type 0} → ((n : ℕ) → G n → G′ n) → (limit : ℕ) (rows words : List ℕ) (p : Progress)
-      → Outcome G limit rows words p → Outcome G′ limit rows words p
-  outcome-map f limit rows words (progress.Going n) o = f n o
-  outcome-map f limit rows words (progress.Breaks j) o = o
-  outcome-map f limit rows words progress.Full o = o
+  pub outcome-map : {G G′ : ℕ → Type 0} → ((n : ℕ) → G n → G′ n) → (limit round : ℕ) (rows words : List ℕ) (p : Progress)
+      → Outcome G limit round rows words p → Outcome G′ limit round rows words p
+  outcome-map f limit round rows words (progress.Going n) o = f n o
+  outcome-map f limit round rows words (progress.Breaks j) o = o
+  outcome-map f limit round rows words progress.Full o = o
 
   -- the list has ended, and no row breaks the contract
   pub record Passed (limit n : ℕ) (rows words : List ℕ) : Type 0 where
@@ -62,3 +68,14 @@ module _ (C : Contract) where
     pub ended : Ended (kindAutomaton C) height
     pub holds : Holds C limit rows words (rounds (kindAutomaton C) height)
     pub none : NoneBreaks C n (rounds (kindAutomaton C) height)
+
+  -- round h is the last whose rows there is room for, and no row breaks the contract
+  pub record Stopped (limit h : ℕ) (rows words : List ℕ) : Type 0 where
+    pub last : LastHeld C limit h
+    pub overfull : Overfull limit (suc h) rows words
+
+  -- the end of the list
+  abbrev pub Conclusion : (limit : ℕ) (rows words : List ℕ) → Ending → Type 0
+  Conclusion limit rows words (ending.All n) = Passed limit n rows words
+  Conclusion limit rows words (ending.Breaks j) = Broken limit j rows words
+  Conclusion limit rows words (ending.Full h) = Stopped limit h rows words

@@ -1,33 +1,46 @@
-// The end of a check: how many rows stand, zeros behind them, and the answer.
+// The end of a check: how the list ends, how many rows stand, zeros behind them, and the answer.
 ghost use mathlib.Core.Path.{_≡_};
 ghost use Prim.Native.Nat.{_<_, _≤_};
 ghost use lib.ListN.{length};
 ghost use Rattle.answers.specs.Numbers.{checkingAnswer};
 ghost use Rattle.kind_lists.specs.Listing.{clearedFrom};
 ghost use Rattle.kind_lists.specs.Closing.{rowsStanding, answerAfter};
+ghost use Rattle.kind_lists.specs.Outcomes.{endingOf};
+use crate::Ending;
 use crate::Progress;
 use answers::CheckingAnswer;
 
+// How the list ends where the offers of a round end so, over rows that have the kinds of all trees up to this height.
+pub fn ending_of(step: Progress, height: usize) -> Ending
+    ensures { λ r. ⌜ r ≡ endingOf height step ⌝ }
+{
+    match step {
+        Progress::Going(count) => Ending::All(count),
+        Progress::Breaks(row) => Ending::Breaks(row),
+        Progress::Full => Ending::Full(height),
+    }
+}
+
 // How many rows stand.
-pub fn rows_standing(ended: Progress) -> usize
+pub fn rows_standing(ended: Ending) -> usize
     requires { ⌜ rowsStanding ended < 65536 ⌝ }
     ensures { λ r. ⌜ r ≡ rowsStanding ended ⌝ }
 {
     match ended {
-        Progress::Going(count) => count,
-        Progress::Breaks(row) => row + 1,
-        Progress::Full => 0,
+        Ending::All(count) => count,
+        Ending::Breaks(row) => row + 1,
+        Ending::Full(_) => 0,
     }
 }
 
 // The answer of a check with this limit.
-pub fn answer_after(ended: Progress, limit: usize) -> CheckingAnswer
+pub fn answer_after(ended: Ending, limit: usize) -> CheckingAnswer
     ensures { λ r. ⌜ checkingAnswer r ≡ answerAfter limit ended ⌝ }
 {
     match ended {
-        Progress::Going(count) => CheckingAnswer::Pass(count),
-        Progress::Breaks(row) => CheckingAnswer::Tree(row),
-        Progress::Full => CheckingAnswer::Stopped(limit),
+        Ending::All(count) => CheckingAnswer::Pass(count),
+        Ending::Breaks(row) => CheckingAnswer::Tree(row),
+        Ending::Full(height) => CheckingAnswer::Stopped(limit, height),
     }
 }
 

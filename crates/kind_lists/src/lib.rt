@@ -1,4 +1,4 @@
-// The list of kinds as it stands in the lent buffers: finding a kind, offering one, and closing the buffers at the end.
+// The list of kinds as it stands in the lent buffers: finding a kind, offering one, how the list ends, and closing the buffers then.
 pub mod closing;
 pub mod listing;
 
@@ -10,4 +10,14 @@ pub enum Progress {
     Breaks(usize),
     // There are more kinds than rows.
     Full,
+}
+
+// How the list ends.
+pub enum Ending {
+    // All kinds are listed, this many, and none breaks the contract.
+    All(usize),
+    // This row breaks the contract.
+    Breaks(usize),
+    // There are more kinds than rows; those of all trees up to this height are listed, and no more heights are.
+    Full(usize),
 }

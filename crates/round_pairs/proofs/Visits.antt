@@ -44,12 +44,12 @@ room-of list u =
 
 module _ {C : Contract} {r : Round} {s i j n : ℕ} {slots rows words : List ℕ} (at : At C r s i j n slots rows words) where
   pub at-room : Room (r .limit) n rows words
-  at-room = room-of (listAt C (at .height) s i j) (at .list)
+  at-room = room-of (listAt C (r .height) s i j) (at .list)
 
   -- the rows of the round stand in the buffers
   pub at-stood : (r .stood ≤ n) × (r .stood ≤ 512)
   at-stood =
-      let standing = rounds (kindAutomaton C) (at .height) in
+      let standing = rounds (kindAutomaton C) (r .height) in
       let longer = begins-length (rows-begin (kindAutomaton C) standing (place (length standing) s i j)) in
       let few : r .stood ≤ n = omega (arith, at .list .counted, at .standing .counted) in
       (few, omega (arith, at-room .used, at-room .few))
@@ -65,7 +65,7 @@ module _ {C : Contract} {r : Round} {s i j n : ℕ} {slots rows words : List ℕ
       → (leftKind rightKind kind : List ℕ) → leftKind ≡ paddedKind words i → rightKind ≡ paddedKind words j
       → kind ≡ nextKind C s (take 5 leftKind) (take 5 rightKind) ++ (0 ∷ [])
       → (p : Progress) (slots′ rows′ words′ : List ℕ) → Becomes (offering v (r .limit) n s i j kind slots rows words) p slots′ rows′ words′
-      → Outcome C (λ m. At C r s i (j + 1) m slots′ rows′ words′) (r .limit) rows′ words′ p
+      → Outcome C (λ m. At C r s i (j + 1) m slots′ rows′ words′) (r .limit) (suc (r .height)) rows′ words′ p
   visit-pair {v = v} known verdicts hS hi hj leftKind rightKind kind el er ek p slots′ rows′ words′ b =
       visit C at hS hi hj known v verdicts kind
       (ek ∙ ap₂ (λ (x : List ℕ) (y : List ℕ). nextKind C s (take 5 x) (take 5 y) ++ (0 ∷ [])) el er)
@@ -79,7 +79,7 @@ at-right {C} {r} {s} {i} {n = n} {slots = slots} {rows = rows} {words = words} k
 
 -- buffers keep their lengths
 pub at-lengths : (C : Contract) (r : Round) (s i j : ℕ) (slots rows words : List ℕ) (p : Progress)
-    → Outcome C (λ n. At C r s i j n slots rows words) (r .limit) rows words p
+    → Outcome C (λ n. At C r s i j n slots rows words) (r .limit) (suc (r .height)) rows words p
     → (length rows ≡ 3 * r .limit) × (length words ≡ 5 * r .limit)
 at-lengths C r s i j slots rows words p o =
-    kept-lengths C (λ n. At C r s i j n slots rows words) (r .limit) rows words (λ n at. (at .list .holds .rowRoom, at .list .holds .wordRoom)) p o
+    kept-lengths C (λ n. At C r s i j n slots rows words) (r .limit) (suc (r .height)) rows words (λ n at. (at .list .holds .rowRoom, at .list .holds .wordRoom)) p o

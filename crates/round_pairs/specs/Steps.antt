@@ -16,7 +16,7 @@ use Rattle.model.specs.Tables.{Contract}
 use Rattle.model.specs.Kinds.{nextKind}
 use Rattle.model.specs.Rounds.{TreeAutomaton, Listed, kindAutomaton, ListedKind, kindAt, combinations, roundTo, rounds}
 use Rattle.model.proofs.Laws.Established.{Established}
-use Rattle.model.proofs.Rounds.Growth.{begins-length, begins-state, Beginning, middle-beginning, rows-begin}
+use Rattle.model.proofs.Rounds.Growth.{Begins, begins-length, begins-state, middle-begins, middle-beginning, rows-begin}
 use Rattle.model.proofs.Rounds.Places.{place, place-next-left, place-next-symbol, place-below}
 use Rattle.model.proofs.Rounds.Covering.{Decides, HasState, has-later, kinds-decided}
 use Rattle.model.proofs.Rounds.Skipping.{PairListed, step, skip-right, skip-left, same-left-listed, same-right-listed}
@@ -92,20 +92,18 @@ module _ (C : Contract) where
 
   -- the loops of a round stand before symbol s over rows i and j: the buffers hold the list so far, of n rows, and the slots are its slots
   pub record At (r : Round) (s i j n : ℕ) (slots rows words : List ℕ) : Type 0 where
-    pub height : ℕ
-    pub standing : Standing height (r .before) (r .stood)
+    pub standing : Standing (r .height) (r .before) (r .stood)
     pub symbol : 1 ≤ s
-    pub list : Unbroken C (r .limit) n slots rows words (listAt height s i j)
+    pub list : Unbroken C (r .limit) n slots rows words (listAt (r .height) s i j)
 
   module _ {r : Round} {s i j n : ℕ} {slots rows words : List ℕ} (at : At r s i j n slots rows words) where
     abbrev stood : List (ListedKind C)
-    stood = rounds (kindAutomaton C) (at .height)
+    stood = rounds (kindAutomaton C) (r .height)
 
     -- the loops stand elsewhere where the list is the same
-    moved : (s′ i′ j′ : ℕ) → 1 ≤ s′ → listAt (at .height) s′ i′ j′ ≡ listAt (at .height) s i j → At r s′ i′ j′ n slots rows words
+    moved : (s′ i′ j′ : ℕ) → 1 ≤ s′ → listAt (r .height) s′ i′ j′ ≡ listAt (r .height) s i j → At r s′ i′ j′ n slots rows words
     moved s′ i′ j′ h e =
         record {
-          height = at .height;
           standing = at .standing;
           symbol = h;
           list = subst (λ (list : List (ListedKind C)). Unbroken C (r .limit) n slots rows words list) (sym e) (at .list);
@@ -120,7 +118,7 @@ module _ (C : Contract) where
         (skip-right (kindAutomaton C) (kinds-decided C) stood s i j k (at .symbol) (omega arith) (m .after) (omega (arith, m .within))
         (λ x from below.
         let (e, le, q) = marks .same s x (at .symbol) hS (omega (arith, m .within)) (m .passed x from below) in
-        same-right-listed (kindAutomaton C) (kinds-decided C) stood s x e (at .symbol) le (omega (arith, m .within)) (q (at .height) (omega (arith, m .within))) i (omega arith)))
+        same-right-listed (kindAutomaton C) (kinds-decided C) stood s x e (at .symbol) le (omega (arith, m .within)) (q (r .height) (omega (arith, m .within))) i (omega arith)))
 
     -- left rows without their mark are passed over whole
     pub pass-lefts : {lefts : List ℕ} → LeftsMarked (r .stood) lefts → j ≡ 0 → s < C .transformation .symbols
@@ -132,7 +130,7 @@ module _ (C : Contract) where
         (skip-lefts (kindAutomaton C) (kinds-decided C) stood s i k (at .symbol) (m .after) (omega (arith, m .within))
         (λ x y from below hy.
         let (e, le, q) = marks .same s x (at .symbol) hS (omega (arith, m .within)) (m .passed x from below) in
-        same-left-listed (kindAutomaton C) (kinds-decided C) stood s x e (at .symbol) le (omega (arith, m .within)) (q (at .height) (omega (arith, m .within))) y hy)))
+        same-left-listed (kindAutomaton C) (kinds-decided C) stood s x e (at .symbol) le (omega (arith, m .within)) (q (r .height) (omega (arith, m .within))) y hy)))
 
     -- pairs of rows that stood in the round before are passed over
     pub pass-old : j ≡ 0 → s < C .transformation .symbols → i < r .before → At r s i (r .before) n slots rows words
@@ -177,24 +175,24 @@ module _ (C : Contract) where
     -- a pair is visited: the kinds of its rows are read, the kind of the symbol over them is offered
     module _ (hS : s < C .transformation .symbols) (hi : i < r .stood) (hj : j < r .stood) where
       abbrev list : List (ListedKind C)
-      list = listAt (at .height) s i j
+      list = listAt (r .height) s i j
 
       abbrev pairKind : List ℕ
       pairKind = nextKind C s (kindAt C stood i) (kindAt C stood j)
 
-      -- the list so far, and after the pair, is a beginning of the list of all kinds
+      -- the list so far, and after the pair, begins the list of the next round
       in-round : place (length stood) s i j < combinations (kindAutomaton C) stood
       in-round =
           let counted = at .standing .counted in
           place-below (length stood) s i j (omega arith) (omega arith) (C .transformation .symbols) (at .symbol) hS
 
       words-five : FiveWords C list
-      words-five = beginning-five C list (middle-beginning (kindAutomaton C) (at .height) (place (length stood) s i j) (omega (arith, in-round)))
+      words-five = beginning-five C list (middle-beginning (kindAutomaton C) (r .height) (place (length stood) s i j) (omega (arith, in-round)))
 
-      then-begins : Beginning (kindAutomaton C) (listAt (at .height) s i (j + 1))
+      then-begins : Begins (kindAutomaton C) (listAt (r .height) s i (j + 1)) (rounds (kindAutomaton C) (suc (r .height)))
       then-begins =
           let e : place (length stood) s i (j + 1) ≡ suc (place (length stood) s i j) = omega arith in
-          rw e (middle-beginning (kindAutomaton C) (at .height) (suc (place (length stood) s i j)) (omega (arith, in-round)))
+          rw e (middle-begins (kindAutomaton C) (r .height) (suc (place (length stood) s i j)) (omega (arith, in-round)))
 
       row-held : (k : ℕ) → k < r .stood → kindIn words k ≡ kindAt C stood k
       row-held k h =
@@ -202,7 +200,7 @@ module _ (C : Contract) where
           let start = rows-begin (kindAutomaton C) stood (place (length stood) s i j) in
           kind-held C (r .limit) rows words list (at .list .holds) words-five k (omega (arith, begins-length start)) ∙ begins-state start k (omega arith)
 
-      after : listAt (at .height) s i (j + 1) ≡ Rattle.model.specs.Rounds.added (kindAutomaton C) list (record { symbol = s; left = i; right = j; state = pairKind })
+      after : listAt (r .height) s i (j + 1) ≡ Rattle.model.specs.Rounds.added (kindAutomaton C) list (record { symbol = s; left = i; right = j; state = pairKind })
       after =
           let counted = at .standing .counted in
           rw (add-one j) (step (kindAutomaton C) stood s i j (at .symbol) (omega arith) (omega arith))
@@ -210,15 +208,14 @@ module _ (C : Contract) where
       pub visit : Established C → (v : Verdicts) → VerdictsOf (C .input .marks) (C .output .marks) v
           → (kind : List ℕ) → kind ≡ nextKind C s (kindIn words i) (kindIn words j) ++ (0 ∷ [])
           → (p : Progress) (slots′ rows′ words′ : List ℕ) → Becomes (offering v (r .limit) n s i j kind slots rows words) p slots′ rows′ words′
-          → Outcome C (λ m. At r s i (j + 1) m slots′ rows′ words′) (r .limit) rows′ words′ p
+          → Outcome C (λ m. At r s i (j + 1) m slots′ rows′ words′) (r .limit) (suc (r .height)) rows′ words′ p
       visit known v verdicts kind ek p slots′ rows′ words′ b =
           let e : kind ≡ pairKind ++ (0 ∷ []) = ek ∙ rw (row-held i hi, row-held j hj) in
           outcome-map C (λ m u.
           record {
-            height = at .height;
-            standing = at .standing;
+              standing = at .standing;
             symbol = at .symbol;
             list = rw after u;
-          }) (r .limit) rows′ words′ p
-          (offered C known v verdicts list (at .list) words-five s i j pairKind (length-next-kind C s (kindAt C stood i) (kindAt C stood j)) (rw after at then-begins) p slots′ rows′ words′
+          }) (r .limit) (suc (r .height)) rows′ words′ p
+          (offered C known v verdicts list (at .list) words-five s i j pairKind (length-next-kind C s (kindAt C stood i) (kindAt C stood j)) (suc (r .height)) (rw after at then-begins) p slots′ rows′ words′
           (rw e at b))

@@ -1,5 +1,5 @@
 -- Where the loops of a round stand, for a prepared contract, and what a stretch of them comes to, as the code says it.
-use Prim.Native.Nat.{ℕ}
+use Prim.Native.Nat.{ℕ, suc}
 use mathlib.Core.List.{List}
 use Rattle.prepared.specs.declared.Prepared.{Prepared}
 use Rattle.prepared.specs.Parts.{contractIn}
@@ -20,7 +20,7 @@ module _ (p : Prepared) (table : List ℕ) (r : Round) where
 
   -- they come to symbol s over rows i and j, or the answer is known
   abbrev pub Comes : (s i j : ℕ) (slots rows words : List ℕ) → Progress → Type 0
-  Comes s i j slots rows words = Outcome (contractIn p table) (λ n. At (contractIn p table) r s i j n slots rows words) (r .limit) rows words
+  Comes s i j slots rows words = Outcome (contractIn p table) (λ n. At (contractIn p table) r s i j n slots rows words) (r .limit) (suc (r .height)) rows words
 
   -- all rows of the round have their marks
   abbrev pub AllMarked : (lefts rights : List ℕ) → Type 0

@@ -15,9 +15,11 @@ use prepared::Prepared;
 use row_marks::next_marked;
 use tables::Symbol;
 
-// A round over the rows below `stood`, under a limit; pairs of rows below `before` were visited.
+// A round over the rows below `stood`, which have the kinds of all trees up to a height, under a limit; pairs of rows below `before` were
+// visited.
 pub struct Round {
     pub limit: usize,
+    pub height: usize,
     pub before: usize,
     pub stood: usize,
 }

@@ -1,27 +1,45 @@
--- Between two rounds there is room in the buffers, and some row stands; within a round the loops go from symbol to symbol.
-use mathlib.Core.Path.{_≡_, refl, subst, _∙_}
+-- Between two rounds there is room in the buffers, and some row stands; within a round the loops go from symbol to symbol; the end of the list.
+use mathlib.Core.Path.{_≡_, refl, subst, sym, _∙_}
 use mathlib.Core.Bool.{Bool, true, false, _&&_}
 use mathlib.Core.List.{List}
-use Prim.Native.Nat.{ℕ, _<_}
+use Prim.Native.Nat.{ℕ, suc, _+_, _<_, _≤_}
+use native.Mathlib.Numerals.{add-one}
 use native.Mathlib.Omega.{arith}
 use borrow.Author.Tests.{ltb-true}
 use lib.Dec.{ltb}
+use lib.ListN.{length}
 use Rattle.model.specs.Tables.{Contract}
 use Rattle.model.specs.Rounds.{kindAutomaton, rounds}
 use Rattle.model.proofs.Rounds.Growth.{rounds-not-empty}
 use Rattle.kind_lists.specs.Listing.{Room}
+use Rattle.kind_lists.specs.Outcomes.{Conclusion}
+use Rattle.kind_lists.specs.declared.Ending.{Ending}
 use Rattle.round_pairs.specs.Steps.{At}
 use Rattle.round_pairs.specs.declared.Round.{Round}
 use Rattle.round_pairs.proofs.Visits.{room-of}
 use Rattle.rounds.specs.Between.{Between}
 
-pub between-room : {C : Contract} {limit before stood : ℕ} {slots rows words : List ℕ} → Between C limit before stood slots rows words
+pub between-room : {C : Contract} {limit height before stood : ℕ} {slots rows words : List ℕ} → Between C limit height before stood slots rows words
     → Room limit stood rows words
-between-room {C} b = room-of (rounds (kindAutomaton C) (b .height)) (b .list)
+between-room {C} {height = height} b = room-of (rounds (kindAutomaton C) height) (b .list)
 
-pub between-some : {C : Contract} {limit before stood : ℕ} {slots rows words : List ℕ} → Between C limit before stood slots rows words
+pub between-held : {C : Contract} {limit height before stood : ℕ} {slots rows words : List ℕ} → Between C limit height before stood slots rows words
+    → length (rounds (kindAutomaton C) height) ≤ limit
+between-held b = b .list .holds .fits
+
+pub between-some : {C : Contract} {limit height before stood : ℕ} {slots rows words : List ℕ} → Between C limit height before stood slots rows words
     → 0 < stood
-between-some {C} b = omega (arith, b .standing .counted, rounds-not-empty (kindAutomaton C) (b .height))
+between-some {C} {height = height} b = omega (arith, b .standing .counted, rounds-not-empty (kindAutomaton C) height)
+
+-- the height, one more
+pub one-higher : {C : Contract} {limit height before stood : ℕ} {slots rows words : List ℕ} → Between C limit (suc height) before stood slots rows words
+    → Between C limit (height + 1) before stood slots rows words
+one-higher {C} {limit} {height} {before} {stood} {slots} {rows} {words} b =
+    subst (λ (h : ℕ). Between C limit h before stood slots rows words) (sym (add-one height)) b
+
+-- the end of the list under another name
+pub concluded : (C : Contract) (limit : ℕ) (rows words : List ℕ) {e f : Ending} → f ≡ e → Conclusion C limit rows words e → Conclusion C limit rows words f
+concluded C limit rows words same c = subst (λ (x : Ending). Conclusion C limit rows words x) (sym same) c
 
 -- the loops stand before the same symbol under another name
 pub at-symbol : {C : Contract} {r : Round} {s i j n : ℕ} {slots rows words : List ℕ} (k : ℕ) → s ≡ k

@@ -15,35 +15,32 @@ use Rattle.round_pairs.specs.Steps.{Standing, At, listAt}
 use Rattle.round_pairs.specs.declared.Round.{Round}
 
 module _ (C : Contract) where
-  -- the buffers hold the rows of some rounds, `stood` of them, and the slots are theirs; those below `before` stood in the round before
-  pub record Between (limit before stood : ℕ) (slots rows words : List ℕ) : Type 0 where
-    pub height : ℕ
+  -- the buffers hold the rows of rounds 0 to `height`, `stood` of them, and the slots are theirs; those below `before` stood in the round before
+  pub record Between (limit height before stood : ℕ) (slots rows words : List ℕ) : Type 0 where
     pub standing : Standing C height before stood
     pub list : Unbroken C limit stood slots rows words (rounds (kindAutomaton C) height)
     pub ended : before ≡ stood → Ended (kindAutomaton C) height
 
-  module _ {limit before stood : ℕ} {slots rows words : List ℕ} (b : Between limit before stood slots rows words) where
+  module _ {limit height before stood : ℕ} {slots rows words : List ℕ} (b : Between limit height before stood slots rows words) where
     abbrev listed : List (ListedKind C)
-    listed = rounds (kindAutomaton C) (b .height)
+    listed = rounds (kindAutomaton C) height
 
     -- a round begins
-    pub round-starts : At C (record { limit = limit; before = before; stood = stood }) 1 0 0 stood slots rows words
+    pub round-starts : At C (record { limit = limit; height = height; before = before; stood = stood }) 1 0 0 stood slots rows words
     unfolding roundTo
     round-starts =
-        let e : listAt C (b .height) 1 0 0 ≡ listed = ap (λ (c : ℕ). roundTo (kindAutomaton C) listed c) (place-first (length listed)) in
+        let e : listAt C height 1 0 0 ≡ listed = ap (λ (c : ℕ). roundTo (kindAutomaton C) listed c) (place-first (length listed)) in
         record {
-          height = b .height;
           standing = b .standing;
           symbol = omega arith;
           list = subst (λ (list : List (ListedKind C)). Unbroken C limit stood slots rows words list) (sym e) (b .list);
         }
 
   -- a round ends
-  pub round-ends : {r : Round} {n : ℕ} {slots rows words : List ℕ} → At C r (C .transformation .symbols) 0 0 n slots rows words → Between (r .limit) (r .stood) n slots rows words
+  pub round-ends : {r : Round} {n : ℕ} {slots rows words : List ℕ} → At C r (C .transformation .symbols) 0 0 n slots rows words → Between (r .limit) (suc (r .height)) (r .stood) n slots rows words
   unfolding rounds round
   round-ends {r} {n} {slots} {rows} {words} at =
       record {
-        height = suc (at .height);
         standing =
             record {
               counted = grown .counted;
@@ -56,12 +53,12 @@ module _ (C : Contract) where
       }
     where
       before-list : List (ListedKind C)
-      before-list = rounds (kindAutomaton C) (at .height)
+      before-list = rounds (kindAutomaton C) (r .height)
 
       counted : r .stood ≡ length before-list
       counted = at .standing .counted
 
-      whole : listAt C (at .height) (C .transformation .symbols) 0 0 ≡ round (kindAutomaton C) before-list
+      whole : listAt C (r .height) (C .transformation .symbols) 0 0 ≡ round (kindAutomaton C) before-list
       whole = ap (λ (c : ℕ). roundTo (kindAutomaton C) before-list c) (place-last (length before-list) (C .transformation .symbols))
 
       grown : Unbroken C (r .limit) n slots rows words (round (kindAutomaton C) before-list)
@@ -71,9 +68,9 @@ module _ (C : Contract) where
       grows = round-begins (kindAutomaton C) before-list
 
   -- the list has ended
-  pub passed : {limit before stood : ℕ} {slots rows words : List ℕ} → Between limit before stood slots rows words → stood ≤ before
+  pub passed : {limit height before stood : ℕ} {slots rows words : List ℕ} → Between limit height before stood slots rows words → stood ≤ before
       → Passed C limit stood rows words
-  passed b h =
+  passed {height = height} b h =
       let earlier = b .standing .earlier in
       let u = b .list in
-      record { height = b .height; counted = u .counted; ended = b .ended (omega arith); holds = u .holds; none = u .none }
+      record { height = height; counted = u .counted; ended = b .ended (omega arith); holds = u .holds; none = u .none }

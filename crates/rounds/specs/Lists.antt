@@ -3,15 +3,16 @@ use Prim.Native.Nat.{ℕ}
 use mathlib.Core.List.{List}
 use Rattle.prepared.specs.declared.Prepared.{Prepared}
 use Rattle.prepared.specs.Parts.{contractIn}
-use Rattle.kind_lists.specs.Outcomes.{Outcome, Passed}
+use Rattle.kind_lists.specs.Outcomes.{Outcome, Conclusion}
 use Rattle.kind_lists.specs.declared.Progress.{Progress}
+use Rattle.kind_lists.specs.declared.Ending.{Ending}
 use Rattle.rounds.specs.Between.{Between}
 
 module _ (p : Prepared) (table : List ℕ) (limit : ℕ) where
   -- round 0 is listed, or the answer is known
   abbrev pub Begun : (slots rows words : List ℕ) → Progress → Type 0
-  Begun slots rows words = Outcome (contractIn p table) (λ n. Between (contractIn p table) limit 0 n slots rows words) limit rows words
+  Begun slots rows words = Outcome (contractIn p table) (λ n. Between (contractIn p table) limit 0 0 n slots rows words) limit 0 rows words
 
-  -- the whole list, or the answer is known
-  abbrev pub Lists : (rows words : List ℕ) → Progress → Type 0
-  Lists rows words = Outcome (contractIn p table) (λ n. Passed (contractIn p table) limit n rows words) limit rows words
+  -- the list ends
+  abbrev pub Lists : (rows words : List ℕ) → Ending → Type 0
+  Lists rows words = Conclusion (contractIn p table) limit rows words

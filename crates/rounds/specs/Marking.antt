@@ -21,15 +21,15 @@ use Rattle.round_pairs.specs.Steps.{LeftSame, RightSame, LeftsMarked, RightsMar
 use Rattle.rounds.specs.Between.{Between}
 
 module _ (C : Contract) (known : Established C) (leftMasks rightMasks : List ℕ) (covered : Covered C leftMasks rightMasks)
-    {limit before stood : ℕ} {slots rows words : List ℕ} (b : Between C limit before stood slots rows words) where
+    {limit height before stood : ℕ} {slots rows words : List ℕ} (b : Between C limit height before stood slots rows words) where
   -- the kind of a row that stands, in any list that has it
-  held : (k : ℕ) → k < stood → (height : ℕ) → k < length (rounds (kindAutomaton C) height) → kindIn words k ≡ kindAt C (rounds (kindAutomaton C) height) k
-  held k h height inside =
+  held : (k : ℕ) → k < stood → (h : ℕ) → k < length (rounds (kindAutomaton C) h) → kindIn words k ≡ kindAt C (rounds (kindAutomaton C) h) k
+  held k below h inside =
       let counted = b .standing .counted in
-      let listed : List (ListedKind C) = rounds (kindAutomaton C) (b .height) in
+      let listed : List (ListedKind C) = rounds (kindAutomaton C) height in
       let start = rounds-beginning (kindAutomaton C) in
-      kind-held C limit rows words listed (b .list .holds) (beginning-five C listed (start (b .height))) k (omega arith)
-      ∙ agree-state (kindAutomaton C) listed (rounds (kindAutomaton C) height) (start (b .height)) (start height) k (omega arith) inside
+      kind-held C limit rows words listed (b .list .holds) (beginning-five C listed (start height)) k (omega arith)
+      ∙ agree-state (kindAutomaton C) listed (rounds (kindAutomaton C) h) (start height) (start h) k (omega arith) inside
 
   -- an earlier row that agrees under the mask
   agrees : (masks : List ℕ) (symbols s j w : ℕ) → 1 ≤ s → s < symbols → j < stood → MarksOf words masks symbols j w → bit w s ≡ false

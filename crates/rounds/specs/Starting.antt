@@ -9,7 +9,7 @@ use Rattle.model.specs.Kinds.{emptyKind}
 use Rattle.model.specs.Rounds.{kindAutomaton, emptyRow, lists, added, rounds}
 use Rattle.model.specs.Checking.{rowNumbers, kindNumbers}
 use Rattle.model.proofs.Laws.Established.{Established}
-use Rattle.model.proofs.Rounds.Growth.{rounds-beginning}
+use Rattle.model.proofs.Rounds.Growth.{begins-refl}
 use Rattle.model.proofs.Rounds.Buffers.{length-empty-kind}
 use Rattle.breaking.specs.Verdicts.{VerdictsOf}
 use Rattle.breaking.specs.declared.Verdicts.{Verdicts}
@@ -40,11 +40,10 @@ module _ (C : Contract) where
   unfolding rounds
   one = refl
 
-  first-between : {limit : ℕ} {slots rows words : List ℕ} (n : ℕ) → Unbroken C limit n slots rows words (rounds (kindAutomaton C) 0) → Between C limit 0 n slots rows words
+  first-between : {limit : ℕ} {slots rows words : List ℕ} (n : ℕ) → Unbroken C limit n slots rows words (rounds (kindAutomaton C) 0) → Between C limit 0 0 n slots rows words
   first-between n u =
       let counted = u .counted in
       record {
-        height = 0;
         standing = record { counted = counted; earlier = omega arith; old = λ s i j h1 hS hi hj. absurd (omega arith) };
         list = u;
         ended = λ z. absurd (omega (arith, one));
@@ -53,8 +52,8 @@ module _ (C : Contract) where
   pub begun : Established C → (v : Verdicts) → VerdictsOf (C .input .marks) (C .output .marks) v → {limit : ℕ} {slots rows words : List ℕ} → Room limit 0 rows words
       → Entered words 0 slots → (kind : List ℕ) → kind ≡ emptyKind C ++ (0 ∷ [])
       → (p : Progress) (slots′ rows′ words′ : List ℕ) → Becomes (offering v limit 0 0 0 0 kind slots rows words) p slots′ rows′ words′
-      → Outcome C (λ n. Between C limit 0 n slots′ rows′ words′) limit rows′ words′ p
+      → Outcome C (λ n. Between C limit 0 0 n slots′ rows′ words′) limit 0 rows′ words′ p
   begun known v verdicts {limit} {slots} {rows} {words} room entered kind ek p slots′ rows′ words′ b =
-      outcome-map C (λ n u. first-between n (rw round-0 at u)) limit rows′ words′ p
+      outcome-map C (λ n u. first-between n (rw round-0 at u)) limit 0 rows′ words′ p
       (offered C known v verdicts [] (no-rows room entered) (record { five = λ i l. absurd (omega arith) }) 0 0 0 (emptyKind C) (length-empty-kind C)
-      (rw round-0 (rounds-beginning (kindAutomaton C) 0)) p slots′ rows′ words′ (rw ek at b))
+      0 (rw round-0 (begins-refl (rounds (kindAutomaton C) 0))) p slots′ rows′ words′ (rw ek at b))

@@ -8,7 +8,9 @@ ghost use Rattle.kind_lists.specs.Listing.{Room};
 ghost use Rattle.round_pairs.specs.Stretches.{Starts, Comes, AllMarked};
 ghost use Rattle.rounds.specs.Between.{Between};
 ghost use Rattle.rounds.specs.Lists.{Begun, Lists};
+use kind_lists::Ending;
 use kind_lists::Progress;
+use kind_lists::closing::ending_of;
 use kind_lists::listing::offer;
 use kinds::empty_of;
 use prepared::Prepared;
@@ -68,7 +70,7 @@ fn one_round(
     Progress::Going(total)
 }
 
-// The rounds from 1 on, over the rows of round 0, until one adds nothing.
+// The rounds from 1 on, over the rows of round 0, until one adds nothing. Round h lists the kinds of the trees of height h.
 fn all_rounds(
     prepared: Prepared,
     table: &[u16],
@@ -80,14 +82,15 @@ fn all_rounds(
     rows: &mut [u16],
     words: &mut [u64],
     room: &mut [u64; 256],
-) -> Progress
-    requires { ⌜ Ready prepared (now table) × Covered (contractIn prepared (now table)) (now «left_masks») (now «right_masks») × Between (contractIn prepared (now table)) limit 0 count (now slots) (now rows) (now words) ⌝ }
+) -> Ending
+    requires { ⌜ Ready prepared (now table) × Covered (contractIn prepared (now table)) (now «left_masks») (now «right_masks») × Between (contractIn prepared (now table)) limit 0 0 count (now slots) (now rows) (now words) ⌝ }
     ensures { λ r. ⌜ Lists prepared (now (table .entry)) limit (now (rows .exit)) (now (words .exit)) r ⌝ }
 {
     let mut lefts = [0u16; 512];
     let mut rights = [0u16; 512];
     let mut before: usize = 0;
     let mut stood: usize = count;
+    let mut height: usize = 0;
     while before < stood {
         mark_rows(
             words,
@@ -107,6 +110,7 @@ fn all_rounds(
         );
         let round = Round {
             limit: limit,
+            height: height,
             before: before,
             stood: stood,
         };
@@ -122,12 +126,13 @@ fn all_rounds(
             room,
         );
         let Progress::Going(total) = step else {
-            return step;
+            return ending_of(step, height);
         };
         before = stood;
         stood = total;
+        height += 1;
     }
-    Progress::Going(stood)
+    Ending::All(stood)
 }
 
 // Round 0: the kind of the empty forest is offered to the empty list.
@@ -168,7 +173,7 @@ pub fn list_kinds(
     limit: usize,
     rows: &mut [u16],
     words: &mut [u64],
-) -> Progress
+) -> Ending
     requires { ⌜ Ready prepared (now table) × Covered (contractIn prepared (now table)) (now «left_masks») (now «right_masks») × Room limit 0 (now rows) (now words) × (1 ≤ limit) ⌝ }
     ensures { λ r. ⌜ Lists prepared (now (table .entry)) limit (now (rows .exit)) (now (words .exit)) r ⌝ }
 {
@@ -176,7 +181,7 @@ pub fn list_kinds(
     let mut slots = [0u32; 1024];
     let step = first_round(prepared, table, limit, &mut slots, rows, words, &mut room);
     let Progress::Going(count) = step else {
-        return step;
+        return ending_of(step, 0);
     };
     all_rounds(
         prepared,

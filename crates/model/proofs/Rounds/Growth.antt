@@ -109,9 +109,12 @@ module _ (A : TreeAutomaton) where
   take-beginning n rows start = record { round = start .round; begins = begins-trans (take-begins n rows) (start .begins) }
 
   -- "the list in the middle of a round"
-  pub middle-beginning : (h c : ℕ) → c ≤ combinations A (rounds A h) → Beginning (roundTo A (rounds A h) c)
+  pub middle-begins : (h c : ℕ) → c ≤ combinations A (rounds A h) → Begins A (roundTo A (rounds A h) c) (rounds A (suc h))
   unfolding round rounds
-  middle-beginning h c l = record { round = suc h; begins = to-begins (rounds A h) c (combinations A (rounds A h)) l }
+  middle-begins h c l = to-begins (rounds A h) c (combinations A (rounds A h)) l
+
+  pub middle-beginning : (h c : ℕ) → c ≤ combinations A (rounds A h) → Beginning (roundTo A (rounds A h) c)
+  middle-beginning h c l = record { round = suc h; begins = middle-begins h c l }
 
   -- two beginnings agree as far as both go
   module _ (a b : List (Listed A)) (start-a : Beginning a) (start-b : Beginning b) where

@@ -47,7 +47,7 @@ same-length-2 : tie.Need-same-length-2 Inv-loop μ-loop
 same-length-2 c = at-lengths _ _ _ _ _ _ _ _ (c .before .before .before .before .before .right-rows .result) (c .before .before .before .before .before .right-rows .ensures) .1 ∙ sym (at-room (c .before .before .before .before .before .before .before .before .before .before .before .before .before .before .before .before .before .before .pre .1) .wordRoom)
 
 returns : tie.Need-returns Inv-loop μ-loop
-returns c = ends _ _ _ _ _ _ (c .before .before .before .before .before .right-rows .result) (c .match .keys2) (c .before .before .before .before .before .right-rows .ensures)
+returns c = ends _ _ _ _ _ _ _ (c .before .before .before .before .before .right-rows .result) (c .match .keys2) (c .before .before .before .before .before .right-rows .ensures)
 
 add-next-marked : tie.Need-add-next-marked Inv-loop μ-loop
 add-next-marked c = let (few, small) = at-stood (c .before .before .before .before .before .before .before .before .before .before .before .before .before .before .before .before .before .before .before .before .pre .1) in omega arith
@@ -64,7 +64,7 @@ loop-again : tie.Need-loop-again Inv-loop μ-loop
 loop-again c =
     let pre = c .before .before .before .before .before .before .before .before .before .before .before .before .before .before .before .before .before .before .before .before .before .pre in
     let marked = c .next-marked2 .ensures in
-    (pass-lefts _ (goes _ _ _ _ _ (c .before .before .before .before .before .before .before .before .right-rows .result) _ (c .before .before .step .given .1) (c .before .before .before .before .before .before .before .before .right-rows .ensures)) (pre .2 .0) refl (pre .3) marked, marked .within)
+    (pass-lefts _ (goes _ _ _ _ _ _ (c .before .before .before .before .before .before .before .before .right-rows .result) _ (c .before .before .step .given .1) (c .before .before .before .before .before .before .before .before .right-rows .ensures)) (pre .2 .0) refl (pre .3) marked, marked .within)
 
 same-length-3 : tie.Need-same-length-3 Inv-loop μ-loop
 same-length-3 c = at-room (c .before .loop .inv .0) .rowRoom ∙ sym (at-room (c .before .before .before .before .before .before .pre .1) .rowRoom)

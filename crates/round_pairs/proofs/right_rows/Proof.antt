@@ -34,7 +34,7 @@ same-length-2 : tie.Need-same-length-2 Inv-loop μ-loop
 same-length-2 c = at-lengths _ _ _ _ _ _ _ _ (c .before .before .before .before .before .visit-pair .result) (c .before .before .before .before .before .visit-pair .ensures) .1 ∙ sym (at-room (c .before .before .before .before .before .before .before .before .before .before .before .before .before .before .before .before .pre .1) .wordRoom)
 
 returns : tie.Need-returns Inv-loop μ-loop
-returns c = ends _ _ _ _ _ _ (c .before .before .before .before .before .visit-pair .result) (c .match .keys2) (c .before .before .before .before .before .visit-pair .ensures)
+returns c = ends _ _ _ _ _ _ _ (c .before .before .before .before .before .visit-pair .result) (c .match .keys2) (c .before .before .before .before .before .visit-pair .ensures)
 
 add-next-marked : tie.Need-add-next-marked Inv-loop μ-loop
 add-next-marked c = let (few, small) = at-stood (c .before .before .before .before .before .before .before .before .before .before .before .before .before .before .before .before .before .before .pre .1) in omega arith
@@ -51,7 +51,7 @@ loop-again : tie.Need-loop-again Inv-loop μ-loop
 loop-again c =
     let pre = c .before .before .before .before .before .before .before .before .before .before .before .before .before .before .before .before .before .before .before .pre in
     let marked = c .next-marked .ensures in
-    (pass-rights _ (goes _ _ _ _ _ (c .before .before .before .before .before .before .before .before .visit-pair .result) _ (c .before .before .step .given .1) (c .before .before .before .before .before .before .before .before .visit-pair .ensures)) (pre .2) (pre .3) (pre .4) marked, marked .within)
+    (pass-rights _ (goes _ _ _ _ _ _ (c .before .before .before .before .before .before .before .before .visit-pair .result) _ (c .before .before .step .given .1) (c .before .before .before .before .before .before .before .before .visit-pair .ensures)) (pre .2) (pre .3) (pre .4) marked, marked .within)
 
 same-length-3 : tie.Need-same-length-3 Inv-loop μ-loop
 same-length-3 c = at-room (c .before .loop .inv .0) .rowRoom ∙ sym (at-room (c .before .before .before .before .before .before .pre .1) .rowRoom)

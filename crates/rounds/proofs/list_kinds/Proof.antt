@@ -1,6 +1,7 @@
 -- Where round 0 tells the answer, it is the answer; else the rounds go on from it.
 use Rattle.kind_slots.proofs.Finding.{none-entered}
-use Rattle.kind_lists.proofs.Stops.{ends, goes}
+use Rattle.kind_lists.proofs.Stops.{concludes-first, goes}
+use Rattle.rounds.proofs.Laps.{concluded}
 use borrow.Author.Needs.{needs}
 use Rattle.rounds.proofs.list_kinds.Statement.{statement}
 use Rattle.rounds.proofs.list_kinds.Tie as tie
@@ -11,6 +12,9 @@ first-round-requires c κs = (c .before .before .before .before .before .before 
 enum-known-step : tie.Need-enum-known-step
 enum-known-step c = search needs
 
+ending-of-requires : tie.Need-ending-of-requires
+ending-of-requires c κs = search needs
+
 same-length : tie.Need-same-length
 same-length c = search needs
 
@@ -18,10 +22,12 @@ same-length-2 : tie.Need-same-length-2
 same-length-2 c = search needs
 
 returns : tie.Need-returns
-returns c = ends _ _ _ _ _ _ (c .before .before .before .before .before .first-round .result) (c .match .keys2) (c .before .before .before .before .before .first-round .ensures)
+returns c =
+    concluded _ _ _ _ (c .ending-of .ensures)
+    (concludes-first _ _ _ _ _ (c .before .before .before .before .before .before .first-round .result) (c .before .match .keys2) (c .before .before .before .before .before .before .before .before .before .before .before .before .before .before .pre .3) (c .before .before .before .before .before .before .first-round .ensures))
 
 all-rounds-requires : tie.Need-all-rounds-requires
-all-rounds-requires c κs = (c .before .before .before .before .before .before .before .before .before .before .before .before .before .before .before .before .before .before .before .pre .0, c .before .before .before .before .before .before .before .before .before .before .before .before .before .before .before .before .before .before .before .pre .1, goes _ _ _ _ _ (c .before .before .before .before .before .before .before .before .before .before .before .first-round .result) _ (c .before .before .before .before .before .step .given .1) (c .before .before .before .before .before .before .before .before .before .before .before .first-round .ensures))
+all-rounds-requires c κs = (c .before .before .before .before .before .before .before .before .before .before .before .before .before .before .before .before .before .before .before .pre .0, c .before .before .before .before .before .before .before .before .before .before .before .before .before .before .before .before .before .before .before .pre .1, goes _ _ _ _ _ _ (c .before .before .before .before .before .before .before .before .before .before .before .first-round .result) _ (c .before .before .before .before .before .step .given .1) (c .before .before .before .before .before .before .before .before .before .before .before .first-round .ensures))
 
 same-length-3 : tie.Need-same-length-3
 same-length-3 c = search needs
@@ -38,6 +44,7 @@ list-kinds-spec =
     (tie.spec
     first-round-requires
     enum-known-step
+    ending-of-requires
     same-length
     same-length-2
     returns

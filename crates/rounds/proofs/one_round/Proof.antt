@@ -46,7 +46,7 @@ same-length-2 : tie.Need-same-length-2 Inv-loop μ-loop
 same-length-2 c = at-lengths _ _ _ _ _ _ _ _ (c .before .before .before .before .before .left-rows .result) (c .before .before .before .before .before .left-rows .ensures) .1 ∙ sym (at-room (c .before .before .before .before .before .before .before .before .before .before .before .before .before .before .before .before .before .pre .1) .wordRoom)
 
 returns : tie.Need-returns Inv-loop μ-loop
-returns c = ends _ _ _ _ _ _ (c .before .before .before .before .before .left-rows .result) (c .match .keys2) (c .before .before .before .before .before .left-rows .ensures)
+returns c = ends _ _ _ _ _ _ _ (c .before .before .before .before .before .left-rows .result) (c .match .keys2) (c .before .before .before .before .before .left-rows .ensures)
 
 add-number : tie.Need-add-number Inv-loop μ-loop
 add-number c = let test = c .before .before .before .before .before .before .before .before .before .before .before .before .before .before .loop-test .taken in omega (arith, c .before .before .before .before .before .before .before .before .before .before .before .before .before .before .before .before .before .before .before .pre .0 .prepared .established .symbols .≤most, first-below)
@@ -57,7 +57,7 @@ loop-less c = let test = c .before .before .before .before .before .before .befo
 loop-again : tie.Need-loop-again Inv-loop μ-loop
 loop-again c =
     let test = c .before .before .before .before .before .before .before .before .before .before .before .before .before .before .loop-test .taken in
-    (at-symbol _ (omega (arith, c .before .before .before .before .before .before .before .before .before .before .before .before .before .symbol-of .ensures)) (goes _ _ _ _ _ (c .before .before .before .before .before .before .before .left-rows .result) _ (c .before .step .given .1) (c .before .before .before .before .before .before .before .left-rows .ensures)), omega (arith, first-below))
+    (at-symbol _ (omega (arith, c .before .before .before .before .before .before .before .before .before .before .before .before .before .symbol-of .ensures)) (goes _ _ _ _ _ _ (c .before .before .before .before .before .before .before .left-rows .result) _ (c .before .step .given .1) (c .before .before .before .before .before .before .before .left-rows .ensures)), omega (arith, first-below))
 
 same-length-3 : tie.Need-same-length-3 Inv-loop μ-loop
 same-length-3 c = at-room (c .before .loop .inv .0) .rowRoom ∙ sym (at-room (c .before .before .before .before .before .pre .1) .rowRoom)
