@@ -8,13 +8,10 @@ use Rattle.model.specs.Tables.{Contract}
 use Rattle.model.specs.Answers.{Answer}
 use Rattle.model.specs.Checking.{check}
 use Rattle.kind_lists.specs.Listing.{clearedFrom}
-use Rattle.kind_lists.specs.Outcomes.{Outcome, Passed}
+use Rattle.kind_lists.specs.Outcomes.{Conclusion}
 use Rattle.kind_lists.specs.Closing.{rowsStanding, answerAfter, Gives, closes}
-use Rattle.kind_lists.specs.declared.Progress.{Progress}
-use Rattle.kind_lists.specs.declared.Progress.the-variants as progress
-
-abbrev pub Ended : (C : Contract) (limit : ℕ) (rows words : List ℕ) → Progress → Type 0
-Ended C limit rows words p = Outcome C (λ n. Passed C limit n rows words) limit rows words p
+use Rattle.kind_lists.specs.declared.Ending.{Ending}
+use Rattle.kind_lists.specs.declared.Ending.the-variants as ending
 
 pub record Stands (limit standing : ℕ) (rows words : List ℕ) : Type 0 where
   pub few : limit ≤ 512
@@ -22,23 +19,25 @@ pub record Stands (limit standing : ℕ) (rows words : List ℕ) : Type 0 where
   pub rowRoom : length rows ≡ 3 * limit
   pub wordRoom : length words ≡ 5 * limit
 
-pub stands : (C : Contract) (limit : ℕ) (rows words : List ℕ) (p : Progress) → Ended C limit rows words p → Stands limit (rowsStanding p) rows words
-stands C limit rows words (progress.Going n) o =
+pub stands : (C : Contract) (limit : ℕ) (rows words : List ℕ) (e : Ending) → Conclusion C limit rows words e → Stands limit (rowsStanding e) rows words
+stands C limit rows words (ending.All n) o =
     let h = o .holds in let k = o .counted in
     record { few = h .few; fits = omega (arith, h .fits); rowRoom = h .rowRoom; wordRoom = h .wordRoom }
-stands C limit rows words (progress.Breaks j) o =
+stands C limit rows words (ending.Breaks j) o =
     let h = o .holds in let k = o .last in
     record { few = h .few; fits = omega (arith, h .fits); rowRoom = h .rowRoom; wordRoom = h .wordRoom }
-stands C limit rows words progress.Full o = record { few = o .few; fits = omega arith; rowRoom = o .rowRoom; wordRoom = o .wordRoom }
+stands C limit rows words (ending.Full height) o =
+    let h = o .overfull in
+    record { few = h .few; fits = omega arith; rowRoom = h .rowRoom; wordRoom = h .wordRoom }
 
 -- .. and cleared after them the buffers are those of the check
-pub ended-gives : (C : Contract) (limit : ℕ) (rows words : List ℕ) (p : Progress) → Ended C limit rows words p
-    → (standing : ℕ) → standing ≡ rowsStanding p
+pub ended-gives : (C : Contract) (limit : ℕ) (rows words : List ℕ) (e : Ending) → Conclusion C limit rows words e
+    → (standing : ℕ) → standing ≡ rowsStanding e
     → (rows′ words′ : List ℕ) → rows′ ≡ clearedFrom rows (3 * standing) → words′ ≡ clearedFrom words (5 * standing)
-    → (answer : Answer) → answer ≡ answerAfter limit p
+    → (answer : Answer) → answer ≡ answerAfter limit e
     → Gives (check C limit) answer rows′ words′
-ended-gives C limit rows words p o standing es rows′ words′ er ew answer ea =
-    let g = closes C limit rows words p o in
+ended-gives C limit rows words e o standing es rows′ words′ er ew answer ea =
+    let g = closes C limit rows words e o in
     record {
       answered = ea ∙ g .answered;
       rowsClosed = er ∙ ap (λ (k : ℕ). clearedFrom rows (3 * k)) es ∙ g .rowsClosed;

@@ -1,5 +1,5 @@
 -- Calls of `check` and what a caller may conclude from what came back: demands 2 and 3 as statements of answers and closing
--- buffers. proofs/Conclusions proves them: `call-meaning` and `demand-3-of-calls`.
+-- buffers. proofs/Conclusions proves them: `call-meaning`, `stops-no-lower` and `demand-3-of-calls`.
 use mathlib.Core.Path.{_≡_}
 use mathlib.Core.List.{List}
 use mathlib.Core.Logic.{_↔_}
@@ -8,7 +8,7 @@ use lib.ListN.{take, replicate}
 use Rattle.model.specs.Trees.{Tree, height}
 use Rattle.model.specs.Rows.{treeAt}
 use Rattle.model.specs.Tables.{Contract}
-use Rattle.model.specs.Answers.{Answer, pass, tree, refusal}
+use Rattle.model.specs.Answers.{Answer, pass, tree, refusal, stopped}
 use Rattle.model.specs.Checking.{Checked, standing, checking}
 use Rattle.model.specs.Claims.{Breaks, Admitted, OneTransformation, SameButMarks, Within}
 use Rattle.model.specs.Meaning.{TreeOf, NoTreeBreaks, kindRounds, PassMeans, FirstBreaks, LeastBreaking, StopMeans, Fits, OneOfThree}
@@ -36,7 +36,7 @@ pub record LetIn {C : Contract} {L : ℕ} (call : Call C L) : Type 0 where
 
 -- "Checking. 1 to 8; then 9": the answer is none of these refusals
 abbrev pub NotRefused : {C : Contract} {L : ℕ} → Call C L → Type 0
-NotRefused call = (number place : ℕ) → call .answer ≡ refusal number place → number ≡ 10
+NotRefused call = (number place : ℕ) → call .answer ≡ refusal number place → ⊥
 
 -- Demand 2 for a call. No part asks anything of what was handed in: the answer says that the contract is admitted and the
 -- sizes are right.
@@ -44,18 +44,22 @@ pub record CallMeans {C : Contract} {L : ℕ} (call : Call C L) : Type 0 where
   pub letInExactly : NotRefused call ↔ LetIn call
   pub oneOfThree : LetIn call → OneOfThree L (call .answer)
   -- "these write nothing"
-  pub refusedKeeps : (number place : ℕ) → call .answer ≡ refusal number place → (number ≡ 10 → ⊥)
+  pub refusedKeeps : (number place : ℕ) → call .answer ≡ refusal number place
       → (call .closingRows ≡ call .rows) × (call .closingWords ≡ call .words)
   pub passExactly : (n : ℕ) → (call .answer ≡ pass n) ↔ (LetIn call × PassMeans C L n)
   pub treeExactly : (j : ℕ) → (call .answer ≡ tree j) ↔ (LetIn call × FirstBreaks C L j)
   pub treeLeast : (j : ℕ) → call .answer ≡ tree j → LeastBreaking C (treeAt (call .closingRows) j)
-  pub stopExactly : (place : ℕ) → (call .answer ≡ refusal 10 place) ↔ (LetIn call × (place ≡ L) × StopMeans C L)
+  pub stopExactly : (limit h : ℕ) → (call .answer ≡ stopped limit h) ↔ (LetIn call × (limit ≡ L) × StopMeans C L h)
   -- the rows and words that stand are those of the rounds, the rest is 0
   pub passRows : (n : ℕ) → call .answer ≡ pass n → returned call ≡ standing C L (pass n) (kindRounds C L)
   pub treeRows : (j : ℕ) → call .answer ≡ tree j → returned call ≡ standing C L (tree j) (take (suc j) (kindRounds C L))
   -- "both buffers are all 0"
-  pub stopCleared : (place : ℕ) → call .answer ≡ refusal 10 place
+  pub stopCleared : (limit h : ℕ) → call .answer ≡ stopped limit h
       → (call .closingRows ≡ replicate (3 * L) 0) × (call .closingWords ≡ replicate (5 * L) 0)
+
+-- "a larger limit, if it stops too, never gives a smaller h" (change request W-214)
+abbrev pub StopsNoLower : {C : Contract} {L M : ℕ} (first : Call C L) (second : Call C M) → Type 0
+StopsNoLower first second = (limit larger h k : ℕ) → first .answer ≡ stopped limit h → second .answer ≡ stopped larger k → limit ≤ larger → h ≤ k
 
 -- "if the first passes, no tree breaks the second and its check shows none; if the first shows a document, every tree that
 -- breaks the second, shown or not, is at least as tall"

@@ -6,11 +6,11 @@ use Prim.Native.Nat.{ℕ, _≤_}
 use Rattle.model.specs.Trees.{Tree, height}
 use Rattle.model.specs.Rows.{treeAt}
 use Rattle.model.specs.Tables.{Contract, OutputType}
-use Rattle.model.specs.Answers.{pass, tree, refusal}
+use Rattle.model.specs.Answers.{pass, tree, stopped}
 use Rattle.model.specs.Claims.{Breaks}
 use Rattle.model.specs.Meaning.{TreeOf, KindCount, NoTreeBreaks}
 use Rattle.model.specs.Merging.{withOutput}
-use Rattle.checking.specs.Calls.{Call, LetIn}
+use Rattle.checking.specs.Calls.{Call, LetIn, NotRefused}
 
 abbrev pub Passed : {C : Contract} {L : ℕ} → Call C L → Type 0
 Passed call = (n : ℕ) × (call .answer ≡ pass n)
@@ -21,7 +21,7 @@ EachPassed first second = Passed first × Passed second
 
 -- a pass or a tree: the check is not refused and does not stop at its limit
 abbrev pub Answered : {C : Contract} {L : ℕ} → Call C L → Type 0
-Answered call = (number place : ℕ) → call .answer ≡ refusal number place → ⊥
+Answered call = NotRefused call × ((limit h : ℕ) → call .answer ≡ stopped limit h → ⊥)
 
 -- "Given room": a call that is let in, with kinds that number at most its limit
 pub record HasRoom {C : Contract} {L : ℕ} (call : Call C L) : Type 0 where

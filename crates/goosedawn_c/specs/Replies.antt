@@ -1,9 +1,9 @@
--- The reply of an answer: which answer it is, then its values in document 01's order and behind them the numbers taken (W-205), and 0
--- where it has fewer than three.
+-- The reply of an answer: which answer it is, then its values in document 01's order and behind them the numbers taken (W-205) or the
+-- height of a stop (W-214), and 0 where it has fewer than three.
 use mathlib.Core.Path.{_≡_}
 use mathlib.Core.List.{List}
 use Prim.Native.Nat.{ℕ}
-use Rattle.model.specs.Answers.{Answer, refusal, admitted, judged, pass, tree, ran, written}
+use Rattle.model.specs.Answers.{Answer, refusal, stopped, admitted, judged, pass, tree, ran, written}
 use Rattle.model.specs.Checking.{Checked}
 use Rattle.model.specs.Judging.{Judged}
 use Rattle.model.specs.Running.{Ran}
@@ -15,6 +15,8 @@ reply answer first second third = record { answer = answer; first = first; secon
 
 abbrev pub replyOf : Answer → Reply
 replyOf (refusal number place) = reply 0 number place 0
+-- "10 carries h beside the limit"
+replyOf (stopped limit height) = reply 0 10 limit height
 replyOf admitted = reply 1 0 0 0
 replyOf (judged result taken) = reply 2 result taken 0
 replyOf (pass count) = reply 3 count 0 0

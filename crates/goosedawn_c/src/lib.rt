@@ -53,6 +53,7 @@ fn reply_of(answer: Answer) -> Reply
 {
     match answer {
         Answer::Refused(number, place) => reply_with(0, number, place, 0),
+        Answer::Stopped(limit, height) => reply_with(0, 10, limit, height),
         Answer::Admitted => reply_with(1, 0, 0, 0),
         Answer::Judged(result, taken) => reply_with(2, result, taken, 0),
         Answer::Pass(count) => reply_with(3, count, 0, 0),

@@ -3,6 +3,7 @@ ghost use mathlib.Core.Path.{_≡_};
 ghost use mathlib.Core.List.{_∷_, _++_};
 ghost use lib.ListN.{length, take};
 ghost use lib.Seq.{sets};
+ghost use Rattle.model.specs.Answers.{stopped};
 ghost use Rattle.model.specs.WritingOut.{Written};
 ghost use Rattle.answers.specs.Numbers.{numbered, writingAnswer};
 ghost use Rattle.printing.specs.Decimals.{decimal};
@@ -36,6 +37,15 @@ fn append_two(out: &mut [u8], at: usize, word: &[u8], first: usize, second: usiz
     append_behind_space(out, place, second as u64)
 }
 
+// A stop at the limit: refusal 10 with the limit, and behind them the height.
+fn append_stop(out: &mut [u8], at: usize, limit: usize, height: usize) -> usize
+    ensures { λ r. ⌜ r ≡ placeAfter (now (out .entry)) at (length (answerText (stopped limit height))) ⌝ }
+    ensures { λ _. ⌜ now (out .exit) ≡ sets (now (out .entry)) at (answerText (stopped limit height)) ⌝ }
+{
+    let place = append_two(out, at, b"refused ", 10, limit);
+    append_behind_space(out, place, height as u64)
+}
+
 // An answer.
 pub fn append_answer(out: &mut [u8], at: usize, answer: Answer) -> usize
     ensures { λ r. ⌜ r ≡ placeAfter (now (out .entry)) at (length (answerText (numbered answer))) ⌝ }
@@ -49,6 +59,7 @@ pub fn append_answer(out: &mut [u8], at: usize, answer: Answer) -> usize
         Answer::Ran(root, used, _) => append_two(out, at, b"run ", root, used),
         Answer::Written(count) => append_one(out, at, b"written ", count),
         Answer::Refused(number, place) => append_two(out, at, b"refused ", number, place),
+        Answer::Stopped(limit, height) => append_stop(out, at, limit, height),
     }
 }
 

@@ -8,7 +8,7 @@ use lib.Dec.{ltb}
 use lib.ListN.{length, take, drop, length-append, length-take, length-replicate, getD-replicate}
 use lib.Seq.{sets-eq, length-sets, take-at, drop-at}
 use Rattle.foundation.specs.Tests.{choose}
-use Rattle.model.specs.Answers.{Answer, admitted, judged, tree, pass, ran, written, refusal}
+use Rattle.model.specs.Answers.{Answer, admitted, judged, tree, pass, ran, written, refusal, stopped}
 use Rattle.model.specs.WritingOut.{Written}
 use Rattle.printing.specs.Decimals.{digitsOnto, decimal}
 use Rattle.printing.proofs.Runs.{Appended, appended-both}
@@ -100,7 +100,11 @@ two-short : (word : List ℕ) (first second : ℕ) → length (word ++ decimal f
 two-short word first second =
     omega (arith, length-append (word ++ decimal first) (32 ∷ decimal second), length-append word (decimal first), decimal-short first, decimal-short second)
 
-pub answer-short : (a : Answer) → length (answerText a) ≤ 49
+three-short : (word : List ℕ) (first second third : ℕ) → length (word ++ decimal first ++ (32 ∷ decimal second) ++ (32 ∷ decimal third)) ≤ length word + 62
+three-short word first second third =
+    omega (arith, length-append (word ++ decimal first ++ (32 ∷ decimal second)) (32 ∷ decimal third), two-short word first second, decimal-short third)
+
+pub answer-short : (a : Answer) → length (answerText a) ≤ 70
 answer-short admitted = omega arith
 answer-short (judged result taken) = omega (arith, two-short phrases.judged result taken)
 answer-short (tree row) = omega (arith, one-short phrases.shown row)
@@ -108,11 +112,12 @@ answer-short (pass count) = omega (arith, one-short phrases.passed count)
 answer-short (ran root used taken) = omega (arith, two-short phrases.ran root used)
 answer-short (written count) = omega (arith, one-short phrases.wrote count)
 answer-short (refusal number place) = omega (arith, two-short phrases.refused number place)
+answer-short (stopped limit height) = omega (arith, three-short phrases.refused 10 limit height)
 
-pub written-short : (w : Written) → length (writtenText w) ≤ 50 + 21 * length (w .numbers)
+pub written-short : (w : Written) → length (writtenText w) ≤ 71 + 21 * length (w .numbers)
 written-short w = go (w .answer)
   where
-    go : (a : Answer) → length (writtenText (record { answer = a; numbers = w .numbers })) ≤ 50 + 21 * length (w .numbers)
+    go : (a : Answer) → length (writtenText (record { answer = a; numbers = w .numbers })) ≤ 71 + 21 * length (w .numbers)
     go admitted = omega (arith, answer-short admitted)
     go (judged result taken) = omega (arith, answer-short (judged result taken))
     go (tree row) = omega (arith, answer-short (tree row))
@@ -122,3 +127,4 @@ written-short w = go (w .answer)
         let list : List ℕ = take count (w .numbers) in
         omega (arith, answer-short (written count), length-append (answerText (written count)) (58 ∷ spaced list), spaced-short list, length-take count (w .numbers))
     go (refusal number place) = omega (arith, answer-short (refusal number place))
+    go (stopped limit height) = omega (arith, answer-short (stopped limit height))

@@ -28,7 +28,8 @@ fn writes_rows(answer: Answer) -> bool
     ensures { λ r. ⌜ r ≡ writesRows (numbered answer) ⌝ }
 {
     match answer {
-        Answer::Refused(number, _) => (number == 10) | ((13 <= number) & (number <= 15)),
+        Answer::Refused(number, _) => (13 <= number) & (number <= 15),
+        Answer::Stopped(_, _) => true,
         Answer::Admitted => true,
         Answer::Judged(_, _) => true,
         Answer::Tree(_) => true,

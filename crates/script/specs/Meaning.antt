@@ -7,7 +7,7 @@ use lib.ListN.{length, getD, take, set, replicate}
 use Rattle.foundation.specs.Tests.{choose}
 use Rattle.foundation.specs.Lists.{sameList}
 use Rattle.model.specs.Tables.{Contract, contract}
-use Rattle.model.specs.Answers.{Answer, admitted, judged, tree, pass, ran, written, refusal}
+use Rattle.model.specs.Answers.{Answer, admitted, judged, tree, pass, ran, written, refusal, stopped}
 use Rattle.model.specs.Admission.{admit}
 use Rattle.model.specs.Judging.{Judged, judging}
 use Rattle.model.specs.Checking.{Checked, checking}
@@ -113,7 +113,8 @@ line text = 32 ∷ (text ++ (10 ∷ []))
 abbrev pub labelled : State → List ℕ → List ℕ
 labelled state text = state .label ++ line text
 
--- "X10 judged 1 3" (result, numbers taken), "while run lines keep two numbers"
+-- "X10 judged 1 3" (result, numbers taken), "while run lines keep two numbers"; "10 carries h beside the limit, printed last, so X5 prints
+-- "X5 refused 10 1 0""
 abbrev pub answerText : Answer → List ℕ
 answerText admitted = phrases.admitted
 answerText (judged result taken) = phrases.judged ++ decimal result ++ (32 ∷ decimal taken)
@@ -122,6 +123,7 @@ answerText (tree row) = phrases.shown ++ decimal row
 answerText (ran root used taken) = phrases.ran ++ decimal root ++ (32 ∷ decimal used)
 answerText (written count) = phrases.wrote ++ decimal count
 answerText (refusal number place) = phrases.refused ++ decimal number ++ (32 ∷ decimal place)
+answerText (stopped limit height) = phrases.refused ++ decimal 10 ++ (32 ∷ decimal limit) ++ (32 ∷ decimal height)
 
 -- the numbers written stand behind their count and a colon
 abbrev pub writtenText : Written → List ℕ
@@ -133,6 +135,7 @@ writtenText w = elim (w .answer) [
   | ran root used taken ↦ answerText (w .answer)
   | written count ↦ answerText (w .answer) ++ (58 ∷ spaced (take count (w .numbers)))
   | refusal number place ↦ answerText (w .answer)
+  | stopped limit height ↦ answerText (w .answer)
 ]
 
 abbrev pub leftLines : State → Left → List ℕ
@@ -147,7 +150,8 @@ untouched n = replicate n 7
 
 -- whether a question wrote its row buffer: refusals 10, 13, 14 and 15 write zeros there, and other refusals nothing
 abbrev pub writesRows : Answer → Bool
-writesRows (refusal number place) = eqb number 10 || (leb 13 number && leb number 15)
+writesRows (refusal number place) = leb 13 number && leb number 15
+writesRows (stopped limit height) = true
 writesRows admitted = true
 writesRows (judged result taken) = true
 writesRows (tree row) = true

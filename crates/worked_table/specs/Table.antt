@@ -1,25 +1,25 @@
--- X1 to X8 and X12 of document 01, as W-202 answers them, X10 as W-205 does, document 01's sizes and false readings, the faults of
+-- X1 to X8 and X12 of document 01, as W-202 and W-214 answer them, X10 as W-205 does, document 01's sizes and false readings, the faults of
 -- nodes, leading trees, and documents of no root and of two, as one table; the checker computes every answer of it.
 use mathlib.Core.Path.{_≡_, refl}
 use mathlib.Core.List.{List, [], _∷_, _++_, map}
 use Prim.Native.Nat.{ℕ, _+_, _*_}
 use lib.ListN.{replicate}
-use Rattle.foundation.specs.Tests.{_and_, _or_, same, below, someBelow}
-use Rattle.foundation.specs.Search.{first}
+use Rattle.foundation.specs.Tests.{_and_, _or_, same, below, someBelow, everyBelow}
+use Rattle.foundation.specs.Search.{first, greatest}
 use Rattle.foundation.specs.Words.{bit, word}
 use Rattle.foundation.specs.Lists.{zeroFilled, sameList}
-use Rattle.model.specs.Trees.{preorder}
+use Rattle.model.specs.Trees.{everyTree, preorder}
 use Rattle.model.specs.Documents.{joined, forest, leadingFrom, leading, treeOf, documentTree, reading, numbersTaken, leadingTree, endless, faultOf, leadingVerdict}
 use Rattle.model.specs.Rows.{treeBelow, treeAt}
 use Rattle.model.specs.Tables.{Contract}
 use Rattle.model.specs.Expressions.{expressionOf, expressionBelow, expression, greatestParameter, holdsCall}
-use Rattle.model.specs.Answers.{_then_, refuseIf, refuseFirst, refuseLowest, given, Answer, admitted, judged, pass, tree, ran, written, refusal}
+use Rattle.model.specs.Answers.{_then_, refuseIf, refuseFirst, refuseLowest, given, Answer, admitted, judged, pass, tree, ran, written, refusal, stopped}
 use Rattle.model.specs.Admission.{nodeFault, lowestNodeFault, sizes, lengths, inputRows, entries, counts, nodes, rules, facts, admission, admit}
 use Rattle.model.specs.Facts.{yields, factsAt, fact, digits, code, offset, factNumber, numberedFrom, numbered}
 use Rattle.model.specs.Kinds.{reachedEmpty, reachedNext, withMarks, marksIn, kindWords, stateIn, bitOfFact, factsIn, emptyKind, nextKind, kindOf, ofInputType, hasWrongOutput, isTaken, breaks}
 use Rattle.model.specs.Rounds.{lists, added, roundTo, round, listingFrom, listing}
 use Rattle.model.specs.Judging.{judgement, judgingVerdict, judging}
-use Rattle.model.specs.Checking.{rowNumbers, kindNumbers, standing, firstBreaking, answered, check, checkingVerdict, checking}
+use Rattle.model.specs.Checking.{rowNumbers, kindNumbers, stopHeight, standing, firstBreaking, answered, check, checkingVerdict, checking}
 use Rattle.model.specs.Running.{_after_, addRow, countCall, seekRule, evaluate, runAt, runOn, run, closing, runningVerdict, running}
 use Rattle.model.specs.WritingOut.{writingVerdict, writingOut}
 use Rattle.worked_table.specs.Questions
@@ -61,19 +61,19 @@ threeKinds none one two = noRoot 1 ∷ none ∷ 0 ∷ 0 ∷ 0 ∷ oneRoot 1 ∷ 
 abbrev pub table : List Case
 table =
     -- X1, "refused at" its limit; and "pass with 3 at limit 3"
-    line (C1 bothAccepted) (Questions.check 2) (refusal 10 2) (closed 2 [] [])
+    line (C1 bothAccepted) (Questions.check 2) (stopped 2 1) (closed 2 [] [])
     ∷ line (C1 bothAccepted) (Questions.check 3) (pass 3) (closed 3 threeRows (threeKinds 1 2 2))
     -- X2
-    ∷ line (C1 bothAccepted) (Questions.check 1) (refusal 10 1) (closed 1 [] [])
+    ∷ line (C1 bothAccepted) (Questions.check 1) (stopped 1 0) (closed 1 [] [])
     -- X3, the same
-    ∷ line (C1 (0 ∷ 1 ∷ [])) (Questions.check 1) (refusal 10 1) (closed 1 [] [])
+    ∷ line (C1 (0 ∷ 1 ∷ [])) (Questions.check 1) (stopped 1 0) (closed 1 [] [])
     ∷ line (C1 (0 ∷ 1 ∷ [])) (Questions.check 3) (pass 3) (closed 3 threeRows (threeKinds 1 2 2))
     -- X4, and its row 1 written out
     ∷ line (C1 (1 ∷ 0 ∷ [])) (Questions.check 512) (tree 1)
     (closed 512 (0 ∷ 0 ∷ 0 ∷ 1 ∷ 0 ∷ 0 ∷ []) (noRoot 1 ∷ 1 ∷ 0 ∷ 0 ∷ 0 ∷ oneRoot 1 ∷ 2 ∷ 0 ∷ 0 ∷ 0 ∷ []))
     ∷ line (C1 (1 ∷ 0 ∷ [])) (Questions.writeOut (zeroFilled (3 * 512) (0 ∷ 0 ∷ 0 ∷ 1 ∷ 0 ∷ 0 ∷ [])) 1 4) (written 3) ((1 ∷ 0 ∷ 0 ∷ 7 ∷ []) ∷ [])
     -- X5
-    ∷ line (C1 (1 ∷ 0 ∷ [])) (Questions.check 1) (refusal 10 1) (closed 1 [] [])
+    ∷ line (C1 (1 ∷ 0 ∷ [])) (Questions.check 1) (stopped 1 0) (closed 1 [] [])
     -- X6
     ∷ line C2 (Questions.run 100 (1 ∷ 0 ∷ 1 ∷ 0 ∷ 0 ∷ [])) (ran 2 3 5) (closedRun 100 (0 ∷ 0 ∷ 0 ∷ 0 ∷ 0 ∷ 0 ∷ 1 ∷ 1 ∷ 0 ∷ []))
     -- X7
@@ -130,18 +130,23 @@ table =
     (closed 5 (threeRows ++ (1 ∷ 1 ∷ 0 ∷ 1 ∷ 1 ∷ 1 ∷ [])) (threeKinds 16 34 34 ++ (oneRoot 1 ∷ 36 ∷ 0 ∷ 0 ∷ 0 ∷ 1 ∷ 36 ∷ 0 ∷ 0 ∷ 0 ∷ [])))
     ∷ line IdleSymbol (Questions.check 4) (tree 3)
     (closed 4 (threeRows ++ (1 ∷ 1 ∷ 0 ∷ [])) (threeKinds 1 2 2 ++ (oneRoot 1 ∷ 4 ∷ 0 ∷ 0 ∷ 0 ∷ [])))
+    -- stops of the contract of two calls, which has five kinds, of which rounds 0, 1 and 2 list one, one and three: in the middle of round 2 the height is 1
+    ∷ line OneChild (Questions.check 1) (stopped 1 0) (closed 1 [] [])
+    ∷ line OneChild (Questions.check 2) (stopped 2 1) (closed 2 [] [])
+    ∷ line OneChild (Questions.check 3) (stopped 3 1) (closed 3 [] [])
+    ∷ line OneChild (Questions.check 4) (stopped 4 1) (closed 4 [] [])
     ∷ []
 
 -- one name that opens every definition, for computing
 unfoldable pub computing : Unit {0}
-unfolding _and_ _or_ same below someBelow first bit word zeroFilled sameList
-    preorder joined forest leadingFrom leading treeOf documentTree reading numbersTaken leadingTree endless faultOf leadingVerdict treeBelow treeAt
+unfolding _and_ _or_ same below someBelow everyBelow first greatest bit word zeroFilled sameList
+    everyTree preorder joined forest leadingFrom leading treeOf documentTree reading numbersTaken leadingTree endless faultOf leadingVerdict treeBelow treeAt
     expressionOf expressionBelow expression greatestParameter holdsCall _then_ refuseIf refuseFirst refuseLowest nodeFault lowestNodeFault given
     sizes lengths inputRows entries counts nodes rules facts admission admit
     yields factsAt fact digits code offset factNumber numberedFrom numbered
     reachedEmpty reachedNext withMarks marksIn kindWords stateIn bitOfFact factsIn emptyKind nextKind kindOf ofInputType hasWrongOutput isTaken breaks
     lists added roundTo round listingFrom listing judgement judgingVerdict judging
-    rowNumbers kindNumbers standing firstBreaking answered check checkingVerdict checking
+    rowNumbers kindNumbers stopHeight standing firstBreaking answered check checkingVerdict checking
     _after_ addRow countCall seekRule evaluate runAt runOn run closing runningVerdict running writingVerdict writingOut ask
 computing = tt
 

@@ -2,19 +2,18 @@
 use mathlib.Core.Path.{_≡_, refl, ap, sym, _∙_}
 use mathlib.Core.List.{[]}
 use mathlib.Core.Logic.{_↔_}
-use Prim.Native.Nat.{ℕ, _*_, _-_}
+use Prim.Native.Nat.{ℕ, _*_, _-_, _≤_}
 use native.Mathlib.Omega.{arith}
 use lib.ListN.{length, replicate}
 use Rattle.foundation.specs.Lists.{zeroFilled}
 use Rattle.model.specs.Tables.{Contract}
-use Rattle.model.specs.Answers.{Verdict, fine, refused, Answer, pass, tree, refusal}
+use Rattle.model.specs.Answers.{Verdict, fine, refused, Answer, pass, tree, refusal, stopped}
 use Rattle.model.specs.Checking.{Checked, rowNumbers, kindNumbers, standing, limitWrong, checkingVerdict, checking}
 use Rattle.model.specs.Meaning.{Lent, checkOf, OneOfThree, is-pass, is-tree, is-stop, CheckMeans}
 use Rattle.model.proofs.Laws.Answers.{then-fine-left, then-fine-right, refuse-first-fine, given-refused}
-use Rattle.model.proofs.Meaning.Answers.{pass-not-refusal, tree-not-refusal}
-use Rattle.model.proofs.Meaning.Checks.{check-meaning}
-use Rattle.model.proofs.Meaning.Verdicts.{checking-numbers}
-use Rattle.checking.specs.Calls.{Call, returned, LetIn, NotRefused, CallMeans}
+use Rattle.model.proofs.Meaning.Answers.{pass-not-refusal, tree-not-refusal, pass-not-stopped, tree-not-stopped, stopped-not-refusal}
+use Rattle.model.proofs.Meaning.Checks.{check-meaning, larger-limit-stop}
+use Rattle.checking.specs.Calls.{Call, returned, LetIn, NotRefused, CallMeans, StopsNoLower}
 use Rattle.checking.proofs.Sizes.{room-clear, row-clear}
 
 -- a check that is stopped stands on nothing: both buffers are all 0
@@ -57,10 +56,10 @@ module _ {C : Contract} {L : ℕ} (call : Call C L) where
             };
       }
 
-  -- a call is let in, or turned away with another number than 10 and its buffers as they were
+  -- a call is let in, or turned away by a refusal and its buffers as they were
   data Treated : Type 0 where
     is-let-in : LetIn call → Treated
-    is-turned-away : (number place : ℕ) → (number ≡ 10 → ⊥) → call .answer ≡ refusal number place → call .closingRows ≡ call .rows → call .closingWords ≡ call .words → Treated
+    is-turned-away : (number place : ℕ) → call .answer ≡ refusal number place → call .closingRows ≡ call .rows → call .closingWords ≡ call .words → Treated
 
   turned-away : (number place : ℕ) → checkingVerdict C L (call .rows) (call .words) ≡ refused number place
       → checking C L (call .rows) (call .words) ≡ record { answer = refusal number place; rows = call .rows; words = call .words }
@@ -74,8 +73,7 @@ module _ {C : Contract} {L : ℕ} (call : Call C L) where
       go fine e = is-let-in (let-in e)
       go (refused number place) e =
           let away = turned-away number place e in
-          is-turned-away number place (checking-numbers C L (call .rows) (call .words) number place e)
-          (call .gives .answered ∙ ap (λ (c : Checked). c .answer) away)
+          is-turned-away number place (call .gives .answered ∙ ap (λ (c : Checked). c .answer) away)
           (call .gives .rowsClosed ∙ ap (λ (c : Checked). c .rows) away)
           (call .gives .wordsClosed ∙ ap (λ (c : Checked). c .words) away)
 
@@ -85,47 +83,59 @@ module _ {C : Contract} {L : ℕ} (call : Call C L) where
     where
       go : Treated → LetIn call
       go (is-let-in good) = good
-      go (is-turned-away number place other q r w) = absurd (pass-not-refusal e q)
+      go (is-turned-away number place q r w) = absurd (pass-not-refusal e q)
 
   pub tree-let-in : (j : ℕ) → call .answer ≡ tree j → LetIn call
   tree-let-in j e = go treated
     where
       go : Treated → LetIn call
       go (is-let-in good) = good
-      go (is-turned-away number place other q r w) = absurd (tree-not-refusal e q)
+      go (is-turned-away number place q r w) = absurd (tree-not-refusal e q)
+
+  stop-let-in : (limit h : ℕ) → call .answer ≡ stopped limit h → LetIn call
+  stop-let-in limit h e = go treated
+    where
+      go : Treated → LetIn call
+      go (is-let-in good) = good
+      go (is-turned-away number place q r w) = absurd (stopped-not-refusal e q)
 
   not-refused-let-in : NotRefused call → LetIn call
   not-refused-let-in never = go treated
     where
       go : Treated → LetIn call
       go (is-let-in good) = good
-      go (is-turned-away number place other q r w) = absurd (other (never number place q))
+      go (is-turned-away number place q r w) = absurd (never number place q)
 
   one-of : (good : LetIn call) → OneOfThree L (call .answer)
   one-of good = rw (call .gives .answered) (means good .oneOfThree)
 
-  -- a refusal of a call that is let in is 10 with the limit
-  let-in-refusal : LetIn call → (number place : ℕ) → call .answer ≡ refusal number place → (number ≡ 10) × (place ≡ L)
-  let-in-refusal good number place e = go (one-of good)
+  -- a call that is let in is not refused, and stops at its own limit
+  let-in-not-refused : LetIn call → NotRefused call
+  let-in-not-refused good number place e = go (one-of good)
     where
-      go : OneOfThree L (call .answer) → (number ≡ 10) × (place ≡ L)
-      go (is-pass n q) = absurd (pass-not-refusal q e)
-      go (is-tree j q) = absurd (tree-not-refusal q e)
-      go (is-stop q) = (cc, cc)
+      go : OneOfThree L (call .answer) → ⊥
+      go (is-pass n q) = pass-not-refusal q e
+      go (is-tree j q) = tree-not-refusal q e
+      go (is-stop h q) = stopped-not-refusal q e
 
-  stop-let-in : (place : ℕ) → call .answer ≡ refusal 10 place → LetIn call
-  stop-let-in place e = not-refused-let-in (λ number at q. let same : 10 ≡ number = cc in sym same)
+  pub own-limit : (limit h : ℕ) → call .answer ≡ stopped limit h → limit ≡ L
+  own-limit limit h e = go (one-of (stop-let-in limit h e))
+    where
+      go : OneOfThree L (call .answer) → limit ≡ L
+      go (is-pass n q) = absurd (pass-not-stopped q e)
+      go (is-tree j q) = absurd (tree-not-stopped q e)
+      go (is-stop k q) = cc
 
-  stopped-at : (place : ℕ) → call .answer ≡ refusal 10 place → call .answer ≡ refusal 10 L
-  stopped-at place e = e ∙ ap (λ (p : ℕ). refusal 10 p) (let-in-refusal (stop-let-in place e) 10 place e .1)
+  pub stopped-at : (limit h : ℕ) → call .answer ≡ stopped limit h → call .answer ≡ stopped L h
+  stopped-at limit h e = e ∙ ap (λ (l : ℕ). stopped l h) (own-limit limit h e)
 
-  refused-keeps : (number place : ℕ) → call .answer ≡ refusal number place → (number ≡ 10 → ⊥)
+  refused-keeps : (number place : ℕ) → call .answer ≡ refusal number place
       → (call .closingRows ≡ call .rows) × (call .closingWords ≡ call .words)
-  refused-keeps number place e other = go treated
+  refused-keeps number place e = go treated
     where
       go : Treated → (call .closingRows ≡ call .rows) × (call .closingWords ≡ call .words)
-      go (is-let-in good) = absurd (other (let-in-refusal good number place e .0))
-      go (is-turned-away number′ place′ another q r w) = (r, w)
+      go (is-let-in good) = absurd (let-in-not-refused good number place e)
+      go (is-turned-away number′ place′ q r w) = (r, w)
 
   -- an answer and what it means, of a call that is let in
   exactly : {A : Type 0} (answer : Answer) → (call .answer ≡ answer → LetIn call)
@@ -137,19 +147,28 @@ module _ {C : Contract} {L : ℕ} (call : Call C L) where
   pub call-meaning : CallMeans call
   call-meaning =
       record {
-        letInExactly = (not-refused-let-in, λ good number place e. let-in-refusal good number place e .0);
+        letInExactly = (not-refused-let-in, let-in-not-refused);
         oneOfThree = one-of;
         refusedKeeps = refused-keeps;
         passExactly = λ n. exactly (pass n) (pass-let-in n) (λ good. means good .passExactly n);
         treeExactly = λ j. exactly (tree j) (tree-let-in j) (λ good. means good .treeExactly j);
         treeLeast = λ j e. rw (call .gives .rowsClosed) (means (tree-let-in j e) .treeLeast j (told e));
-        stopExactly = λ place. (
-          λ e. let good = stop-let-in place e in (good, let-in-refusal good 10 place e .1, means good .stopExactly .0 (told (stopped-at place e))),
-          λ m. call .gives .answered ∙ means (m .0) .stopExactly .1 (m .2) ∙ ap (λ (p : ℕ). refusal 10 p) (sym (m .1)),
+        stopExactly = λ limit h. (
+          λ e. let good = stop-let-in limit h e in (good, own-limit limit h e, means good .stopExactly h .0 (told (stopped-at limit h e))),
+          λ m. call .gives .answered ∙ means (m .0) .stopExactly h .1 (m .2) ∙ ap (λ (l : ℕ). stopped l h) (sym (m .1)),
         );
         passRows = λ n e. returned-is ∙ means (pass-let-in n e) .passRows n (told e);
         treeRows = λ j e. returned-is ∙ means (tree-let-in j e) .treeRows j (told e);
-        stopCleared = λ place e.
-            let cleared : returned call ≡ standing C L (refusal 10 L) [] = returned-is ∙ means (stop-let-in place e) .stopRows (told (stopped-at place e)) in
-            (ap (λ (c : Checked). c .rows) cleared ∙ stopped-cleared C L (refusal 10 L) .0, ap (λ (c : Checked). c .words) cleared ∙ stopped-cleared C L (refusal 10 L) .1);
+        stopCleared = λ limit h e.
+            let cleared : returned call ≡ standing C L (stopped L h) [] = returned-is ∙ means (stop-let-in limit h e) .stopRows h (told (stopped-at limit h e)) in
+            (ap (λ (c : Checked). c .rows) cleared ∙ stopped-cleared C L (stopped L h) .0, ap (λ (c : Checked). c .words) cleared ∙ stopped-cleared C L (stopped L h) .1);
       }
+
+-- "a larger limit, if it stops too, never gives a smaller h"
+pub stops-no-lower : {C : Contract} {L M : ℕ} (first : Call C L) (second : Call C M) → StopsNoLower first second
+stops-no-lower {C} first second limit larger h k e q less =
+    let good = stop-let-in first limit h e in
+    let also = stop-let-in second larger k q in
+    larger-limit-stop C (good .isAdmitted) (lent first good) (lent second also) (omega (arith, own-limit first limit h e, own-limit second larger k q)) h k
+    (told first (stopped-at first limit h e))
+    (told second (stopped-at second larger k q))

@@ -1,11 +1,9 @@
 -- Three calls, with two output types and with these merged: from what each answer means, since a tree breaks the merged contract exactly if
 -- it breaks the first or the second.
-use mathlib.Core.Path.{ap, _∙_}
 use mathlib.Core.Logic.{inl, inr}
 use Prim.Native.Nat.{ℕ}
 use native.Mathlib.Omega.{arith}
 use Rattle.model.specs.Tables.{Contract, OutputType}
-use Rattle.model.specs.Answers.{refusal}
 use Rattle.model.specs.Meaning.{NoTreeBreaks, OneOfThree, is-pass, is-tree, is-stop}
 use Rattle.model.specs.Merging.{IsMerged, withOutput, MergedContract}
 use Rattle.model.proofs.Meaning.KindCounts.{count-bounds}
@@ -22,20 +20,22 @@ module _ {C : Contract} {L : ℕ} (call : Call C L) where
   pass-keeps (n, e) = means .passExactly n .0 e .1 .keeps
 
   room-answers : HasRoom call → Answered call
-  room-answers room number place e =
-      let ten = means .letInExactly .1 (room .letIn) number place e in
-      let more = means .stopExactly place .0 (e ∙ ap (λ (n : ℕ). refusal n place) ten) .2 .moreKinds in
-      omega (arith, count-bounds C (more .kinds) (more .areKinds) (room .kinds) (room .counted), more .more, room .within)
+  room-answers room = (
+    means .letInExactly .1 (room .letIn),
+    λ limit h e.
+        let more = means .stopExactly limit h .0 e .2 .stops .moreKinds in
+        omega (arith, count-bounds C (more .kinds) (more .areKinds) (room .kinds) (room .counted), more .more, room .within),
+  )
 
-  -- an answer that is no refusal is a pass if no tree breaks the contract
+  -- an answer that is no refusal and no stop is a pass if no tree breaks the contract
   answered-passes : Answered call → NoTreeBreaks C → Passed call
   answered-passes answered keeps =
-      go (means .oneOfThree (means .letInExactly .0 (λ number place e. absurd (answered number place e))))
+      go (means .oneOfThree (means .letInExactly .0 (answered .0)))
     where
       go : OneOfThree L (call .answer) → Passed call
       go (is-pass n e) = (n, e)
       go (is-tree j e) = let shown = means .treeLeast j e in absurd (keeps _ (shown .over) (shown .breaking))
-      go (is-stop e) = absurd (answered 10 L e)
+      go (is-stop h e) = absurd (answered .1 L h e)
 
 -- passes of each alone make one of the merged contract, if that is answered
 each-passes : (C : Contract) {Y Z M : OutputType} {K L N : ℕ} → IsMerged (C .transformation .symbols) Y Z M

@@ -75,6 +75,12 @@ slice-aggregate-append-two-3 c = search needs
 append-two-requires-3 : tie.Need-append-two-requires-3
 append-two-requires-3 c κs = search needs
 
+enum-known-answer-7 : tie.Need-enum-known-answer-7
+enum-known-answer-7 c = search needs
+
+append-stop-requires : tie.Need-append-stop-requires
+append-stop-requires c κs = search needs
+
 same-length : tie.Need-same-length
 same-length c = search needs
 
@@ -131,6 +137,14 @@ returns-7 c =
     let a = c .before .before .before .before .before .before .before .before .before .args in
     appended-of (a .out .now) (a .at) text (c .before .before .before .before .before .before .answer6 .given .1) (c .before .before .append-two3 .ensures)
 
+same-length-8 : tie.Need-same-length-8
+same-length-8 c = search needs
+
+returns-8 : tie.Need-returns-8
+returns-8 c =
+    let a = c .before .before .before .before .before .before .before .before .args in
+    appended-of (a .out .now) (a .at) text (c .before .before .before .before .before .answer7 .given .1) (c .before .before .append-stop .ensures)
+
 pub append-answer-spec : {M : Type 1} → statement M
 append-answer-spec =
     tie.close
@@ -156,6 +170,8 @@ append-answer-spec =
     enum-known-answer-6
     slice-aggregate-append-two-3
     append-two-requires-3
+    enum-known-answer-7
+    append-stop-requires
     same-length
     returns
     same-length-2
@@ -169,4 +185,6 @@ append-answer-spec =
     same-length-6
     returns-6
     same-length-7
-    returns-7)
+    returns-7
+    same-length-8
+    returns-8)
