@@ -41,7 +41,7 @@ extern "C" {
 
 /* Which answer a reply is. What its three values hold stands beside it; a value that is not named is 0. */
 enum {
-    GOOSEDAWN_REFUSED = 0,  /* first: the refusal's number; second: its place */
+    GOOSEDAWN_REFUSED = 0,  /* first: the refusal's number; second: its place; third: of refusal 10 the height */
     GOOSEDAWN_ADMITTED = 1,
     GOOSEDAWN_JUDGED = 2,   /* first: the result; second: how many numbers the document took */
     GOOSEDAWN_PASS = 3,     /* first: how many kinds there are */
@@ -105,7 +105,9 @@ goosedawn_reply goosedawn_judge(GOOSEDAWN_CONTRACT, const uint16_t *numbers, siz
  *         kinds stand
  *   TREE  the tree of the row has one root and breaks the contract, and none of less height does: rows and words up to it
  *         stand; goosedawn_write_out gives the document
- *   refusal 10, the limit: there are more kinds than the limit and none of those listed breaks; both buffers are all 0
+ *   refusal 10, the limit: there are more kinds than the limit and none of those listed breaks; both buffers are all 0.
+ *         The reply's third value is the greatest height such that every tree of that height or less has its kind among
+ *         those listed: no document of that height or less breaks the contract. Under a larger limit it is no smaller
  * A row is (symbol, left row, right row), a kind five words as in judging; the rest of both buffers is 0. */
 goosedawn_reply goosedawn_check(GOOSEDAWN_CONTRACT, size_t limit, uint16_t *rows, size_t rows_length, uint64_t *words,
                                 size_t words_length);

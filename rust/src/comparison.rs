@@ -61,7 +61,7 @@ fn ask<B: Clone + PartialEq + Debug>(
     right: impl Fn(&mut B) -> Answer,
 ) -> Result<(), Difference> {
     match agree(buffers, question, left, right)? {
-        Answer::Refused { .. } => seen.refused += 1,
+        Answer::Refused { .. } | Answer::Stopped { .. } => seen.refused += 1,
         _ => seen.answered += 1,
     }
     Ok(())

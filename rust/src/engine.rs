@@ -4,6 +4,10 @@ use crate::contract::{Contract, OutputType};
 use std::fmt;
 
 /// What one of the five operations answers, with its numbers; `taken` is how many numbers the document took.
+///
+/// `Stopped` is refusal 10, a check's stop at its limit: there are more kinds than that, none of those listed breaks the
+/// contract, and `height` is the greatest height up to which every tree has its kind among them. So no document of that height
+/// or less breaks the contract.
 #[derive(Clone, Copy, Debug, PartialEq, Eq)]
 pub enum Answer {
     Admitted,
@@ -13,6 +17,7 @@ pub enum Answer {
     Run { root: usize, used: usize, taken: usize },
     Written { count: usize },
     Refused { number: u64, place: usize },
+    Stopped { limit: usize, height: usize },
 }
 
 impl Answer {
@@ -25,7 +30,7 @@ impl Answer {
     }
 }
 
-/// The words of a script's answer line: a run's leaves out the numbers taken.
+/// The words of a script's answer line: a run's leaves out the numbers taken, a stop's ends with the height.
 impl fmt::Display for Answer {
     fn fmt(&self, f: &mut fmt::Formatter<'_>) -> fmt::Result {
         match self {
@@ -36,6 +41,7 @@ impl fmt::Display for Answer {
             Answer::Run { root, used, .. } => write!(f, "run {root} {used}"),
             Answer::Written { count } => write!(f, "written {count}"),
             Answer::Refused { number, place } => write!(f, "refused {number} {place}"),
+            Answer::Stopped { limit, height } => write!(f, "refused 10 {limit} {height}"),
         }
     }
 }

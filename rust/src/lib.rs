@@ -21,3 +21,4 @@ pub mod library;
 pub mod model;
 pub mod script;
 pub mod timing;
+pub mod trees;

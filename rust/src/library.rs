@@ -23,6 +23,7 @@ struct Reply {
 impl From<Reply> for Answer {
     fn from(reply: Reply) -> Answer {
         match reply.answer {
+            0 if reply.first == 10 => Answer::Stopped { limit: reply.second, height: reply.third },
             0 => Answer::Refused { number: reply.first as u64, place: reply.second },
             1 => Answer::Admitted,
             2 => Answer::Judged { result: reply.first as u64, taken: reply.second },
@@ -46,7 +47,7 @@ struct OldReply {
     _third: MaybeUninit<usize>,
 }
 
-/// An older build may not tell the numbers taken: they are not to be read.
+/// An older build may not tell the numbers taken or the height of a stop: they are not to be read.
 #[cfg(feature = "compare")]
 impl From<OldReply> for Answer {
     fn from(OldReply { answer, first, second, .. }: OldReply) -> Answer {

@@ -234,8 +234,7 @@ impl<E: Engine> Player<'_, E> {
 
     /// The rows that an operation leaves become the current ones unless it was refused without writing.
     fn keep_rows(&mut self, answer: Answer, rows: &[u16]) {
-        let written =
-            !matches!(answer, Answer::Refused { number, .. } if !(number == 10 || (13..=15).contains(&number)));
+        let written = !matches!(answer, Answer::Refused { number, .. } if !(13..=15).contains(&number));
         if written {
             self.rows = rows.to_vec();
         }

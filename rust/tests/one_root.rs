@@ -6,6 +6,7 @@ use goosedawn::engine::{Answer, Engine};
 use goosedawn::generator::{document, one_root, valid, Random, Size};
 use goosedawn::library::Library;
 use goosedawn::model::Model;
+use goosedawn::trees::{all_trees, row_height};
 use std::collections::HashSet;
 
 /// The marks of one root and of the empty forest, as document 01 numbers the bits, and the bits of 32 input states.
@@ -217,25 +218,6 @@ fn a_pass_lists_the_kinds_of_all_trees() {
     lists_all_trees(&Library::default());
 }
 
-/// All trees over the symbols of at most so much height.
-fn all_trees(symbols: usize, height: usize) -> Vec<Vec<u16>> {
-    if height == 0 {
-        return vec![vec![0]];
-    }
-    let below = all_trees(symbols, height - 1);
-    let over = |symbol: u16, left: &[u16]| below.iter().map(move |right| [&[symbol], left, right].concat()).collect();
-    let joined =
-        (1..symbols as u16).flat_map(|symbol| below.iter().flat_map(move |left| -> Vec<_> { over(symbol, left) }));
-    [vec![0]].into_iter().chain(joined).collect()
-}
-
-fn height(rows: &[[usize; 3]], row: usize) -> usize {
-    match rows[row] {
-        [0, _, _] => 0,
-        [_, left, right] => 1 + height(rows, left).max(height(rows, right)),
-    }
-}
-
 /// No document breaks a contract that passes, and none of less height than the one shown: all trees of height 2 and less are
 /// tried, over three symbols at most.
 fn shows_the_least(engine: &impl Engine) {
@@ -249,7 +231,7 @@ fn shows_the_least(engine: &impl Engine) {
         }
         let Some(Checked { answer, rows, .. }) = checked(engine, &contract) else { continue };
         let height = match answer {
-            Answer::Tree { row } => height(&rows, row).min(3),
+            Answer::Tree { row } => row_height(&rows, row).min(3),
             _ => 4,
         };
         met[height - 1] += 1;

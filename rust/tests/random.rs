@@ -1,12 +1,13 @@
 //! The generator makes what it says, and the comparison notices a wrong engine.
 
 use goosedawn::comparison::compare;
-use goosedawn::contract::{Contract, OutputType};
+use goosedawn::contract::{tuple, Contract, OutputType};
 use goosedawn::engine::{Answer, Engine};
 use goosedawn::generator::{contract, damaged, document, merging, numbers, pair, valid, Merging, Pair, Random, Size};
 use goosedawn::model::documents::{leading_document, right_children};
 use goosedawn::model::kinds::{Kind, EMPTY, ONE_ROOT};
 use goosedawn::model::{Model, Refusal};
+use goosedawn::trees::row_height;
 use std::ptr;
 
 #[test]
@@ -335,12 +336,22 @@ enum Wrong {
     AnyRoots,
     /// The kinds that a check lists are without marks.
     Unmarked,
+    /// A stop tells the height of the last row's tree.
+    LastRow,
     /// The shorter of two documents is a copy of it.
     Copied,
     /// What follows merged marks in their buffer is 0.
     Filled,
     /// A merging that is refused writes the first mark.
     Written,
+}
+
+/// The height of the tree of the last row that a check lists before it stops, read off a check with the largest limit.
+fn last_height(contract: &Contract, limit: usize) -> usize {
+    let mut rows = vec![0; 3 * 512];
+    Model.check(contract, 512, &mut rows, &mut vec![0; 5 * 512]);
+    let rows: Vec<[usize; 3]> = (0..limit).map(|row| tuple(&rows, row)).collect();
+    row_height(&rows, limit - 1)
 }
 
 impl Engine for Wrong {
@@ -368,6 +379,10 @@ impl Engine for Wrong {
                 }
                 answer
             }
+            Wrong::LastRow => match Model.check(contract, limit, rows, words) {
+                Answer::Stopped { limit, .. } => Answer::Stopped { limit, height: last_height(contract, limit) },
+                answer => answer,
+            },
             _ => Model.check(contract, limit, rows, words),
         }
     }
@@ -410,6 +425,7 @@ fn a_wrong_engine_is_noticed() {
         (Wrong::Untouched, "check "),
         (Wrong::AnyRoots, "judge "),
         (Wrong::Unmarked, "check "),
+        (Wrong::LastRow, "check "),
         (Wrong::Copied, "shorter "),
         (Wrong::Filled, "merge "),
         (Wrong::Written, "merge "),

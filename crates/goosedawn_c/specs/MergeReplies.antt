@@ -1,6 +1,6 @@
 -- The reply of merging two output types, and what a caller in C or Rust may conclude from it: the reply and the closing buffers are those
 -- of the definition, of which the model says what they mean; and a check with the type in these buffers is one of the merged contract.
-use mathlib.Core.Path.{_≡_, refl, ap, subst, _∙_}
+use mathlib.Core.Path.{_≡_, refl, ap, subst, sym, _∙_}
 use mathlib.Core.List.{List}
 use Prim.Native.Nat.{ℕ}
 use native.Mathlib.Omega.{arith}
@@ -9,7 +9,7 @@ use lib.Dec.{eqb}
 use Rattle.foundation.specs.Tests.{choose}
 use Rattle.model.specs.Tables.{Contract, OutputType}
 use Rattle.model.specs.Answers.{Verdict, fine, refused}
-use Rattle.model.specs.Merging.{MergingAnswer, merged, notMerged, Merged, typeIn, IsMerged, mergingVerdict, merging, MergingMeans, withOutput}
+use Rattle.model.specs.Merging.{MergingAnswer, merged, notMerged, Merged, typeIn, IsMerged, mergingVerdict, merging, MergingMeans, MergedBy, withOutput}
 use Rattle.model.proofs.Laws.Merging.{merging-refused, merging-fine}
 use Rattle.model.proofs.Meaning.MergingAnswers.{merging-number, merging-means}
 use Rattle.checking.specs.Calls.{Call}
@@ -50,6 +50,19 @@ module _ (S : ℕ) (Y : OutputType) (S′ : ℕ) (Z : OutputType) (tableBuffer m
       → MergingMeans S Y S′ Z tableBuffer marksBuffer (record { answer = answerOfMerging r; table = table; marks = marks })
   merge-call r table marks promise =
       rw (ap answerOfMerging (promise .0) ∙ answer-of-merging, promise .1, promise .2) (merging-means S Y S′ Z tableBuffer marksBuffer)
+
+  -- the type that stands in the buffers is one that merging made, so that the law of merging (`merge-law`) speaks of it
+  pub merge-makes : (r : Merging) (table marks : List ℕ) → MergesInto r table marks result
+      → (n : ℕ) → answerOfMerging r ≡ merged n → MergedBy S Y Z (typeIn S n table marks)
+  merge-makes r table marks promise n told =
+      record {
+        secondSymbols = S′;
+        tableBuffer = tableBuffer;
+        marksBuffer = marksBuffer;
+        states = n;
+        answered = sym (ap answerOfMerging (promise .0) ∙ answer-of-merging) ∙ told;
+        made = rw (promise .1, promise .2);
+      }
 
   -- with what `goosedawn_check` promises of three calls (`callOf`): the last of them with the type that stands in the buffers
   pub merge-and-check : (r : Merging) (table marks : List ℕ) → MergesInto r table marks result

@@ -42,9 +42,13 @@ module _ (C : Contract) where
   unfoldable pub firstBreaking : List (ListedKind C) → ℕ → ℕ
   firstBreaking rows n = first (λ j. breaks C (kindAt C rows j)) n
 
-  -- "its kind among the first L": of the list, of which L rounds are enough
+  -- "the first L" kinds: of the list, of which L rounds are enough
+  abbrev pub firstKinds : ℕ → List (ListedKind C)
+  firstKinds L = take L (listing (kindAutomaton C) L)
+
+  -- "its kind among the first L"
   abbrev pub amongFirst : ℕ → Tree → Bool
-  amongFirst L t = lists (kindAutomaton C) (take L (listing (kindAutomaton C) L)) (kindOf C t)
+  amongFirst L t = lists (kindAutomaton C) (firstKinds L) (kindOf C t)
 
   -- "the greatest height h such that every tree of height h or less has its kind among the first L" (change request W-214), where there
   -- are more than L kinds: it is then below L, as each round adds a kind

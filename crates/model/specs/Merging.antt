@@ -177,13 +177,14 @@ module _ (S : ℕ) (Y : OutputType) (S′ : ℕ) (Z : OutputType) (tableBuffer m
     pub tableKept : (n : ℕ) → result .answer ≡ merged n → drop (tableLength S n) (result .table) ≡ drop (tableLength S n) tableBuffer
     pub marksKept : (n : ℕ) → result .answer ≡ merged n → drop n (result .marks) ≡ drop n marksBuffer
 
--- M is what merging Y and Z over S symbols left in the buffers lent: "sizes permitting", as otherwise merging refuses
+-- M is what merging Y, over S symbols, and Z left in the buffers lent: "sizes permitting", as otherwise merging refuses
 pub record MergedBy (S : ℕ) (Y Z M : OutputType) : Type 0 where
+  pub secondSymbols : ℕ
   pub tableBuffer : List ℕ
   pub marksBuffer : List ℕ
   pub states : ℕ
-  pub answered : merging S Y S Z tableBuffer marksBuffer .answer ≡ merged states
-  pub made : M ≡ typeIn S states (merging S Y S Z tableBuffer marksBuffer .table) (merging S Y S Z tableBuffer marksBuffer .marks)
+  pub answered : merging S Y secondSymbols Z tableBuffer marksBuffer .answer ≡ merged states
+  pub made : M ≡ typeIn S states (merging S Y secondSymbols Z tableBuffer marksBuffer .table) (merging S Y secondSymbols Z tableBuffer marksBuffer .marks)
 
 -- how a type is put together by merging, what it is then, and of which parts
 pub data Plan : Type 0 where

@@ -238,3 +238,7 @@ pub record OperationRefusals : Type 0 where
   pub ofWritingOut : (rows : List ℕ) (row : ℕ) (buffer : List ℕ)
       → Refuses (writingReasons rows row buffer) (λ number place. writingOut rows row buffer .answer ≡ refusal number place) (buffer ∷ [])
       (writingOut rows row buffer .numbers ∷ [])
+  -- so 10 is the number of a stop alone
+  pub judgingNotTen : (C : Contract) (numbers buffer : List ℕ) (place : ℕ) → judging C numbers buffer .answer ≡ refusal 10 place → ⊥
+  pub checkingNotTen : (C : Contract) (L : ℕ) (rowBuffer wordBuffer : List ℕ) (place : ℕ)
+      → checking C L rowBuffer wordBuffer .answer ≡ refusal 10 place → ⊥

@@ -8,7 +8,7 @@ use native.Mathlib.Omega.{arith}
 use lib.Dec.{eqb, ltb, leb}
 use lib.ListN.{length, take, drop, length-replicate}
 use lib.Seq.{take-at, length-take-le}
-use borrow.Author.Tests.{lt-ltb, ltb-true, ltb-false, lt-leb, le-leb, ne-eqb}
+use borrow.Author.Tests.{lt-ltb, ltb-true, ltb-false, lt-leb, le-leb}
 use Rattle.foundation.specs.Tests.{choose}
 use Rattle.foundation.specs.Search.{first}
 use Rattle.model.specs.Tables.{Contract}
@@ -41,10 +41,10 @@ unfolding given _then_
 nine-quiet fine of-admission = refl
 nine-quiet (refused number place) of-admission = go (of-admission number place refl)
   where
-    go : AdmissionNumber number → (eqb number 10 || (leb 13 number && leb number 15)) ≡ false
-    go (to-5 l m) = rw (ne-eqb number 10 (omega arith), lt-leb 13 number (omega arith))
-    go (of-node l m) = rw (ne-eqb number 10 (omega arith), le-leb 13 number (omega arith), lt-leb number 15 (omega arith))
-    go (of-rules-and-facts l m) = rw (ne-eqb number 10 (omega arith), lt-leb 13 number (omega arith))
+    go : AdmissionNumber number → (leb 13 number && leb number 15) ≡ false
+    go (to-5 l m) = rw (lt-leb 13 number (omega arith))
+    go (of-node l m) = rw (le-leb 13 number (omega arith), lt-leb number 15 (omega arith))
+    go (of-rules-and-facts l m) = rw (lt-leb 13 number (omega arith))
 
 given-nine : {A : Type 0} (f : Answer → A) (v : Verdict) (a : A) → given (v then refused 9 0) (λ number place. f (refusal number place)) a ≡ f (nine v)
 unfolding given _then_

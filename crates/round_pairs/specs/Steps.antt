@@ -213,7 +213,7 @@ module _ (C : Contract) where
           let e : kind ≡ pairKind ++ (0 ∷ []) = ek ∙ rw (row-held i hi, row-held j hj) in
           outcome-map C (λ m u.
           record {
-              standing = at .standing;
+            standing = at .standing;
             symbol = at .symbol;
             list = rw after u;
           }) (r .limit) (suc (r .height)) rows′ words′ p

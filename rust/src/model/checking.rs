@@ -31,28 +31,39 @@ struct List<'a> {
     kinds: Kinds<'a>,
     limit: usize,
     rows: Vec<[u16; 3]>,
+    heights: Vec<usize>,
     words: Vec<Kind>,
     parts: Vec<Parts>,
     listed: HashSet<Kind, BuildHasherDefault<WordHasher>>,
 }
 
-/// Why the listing stops before its end.
+/// Why the listing stops before its end: a kind breaks, or one is left out, of a tree of this height.
 enum Stop {
     Breaks,
-    Full,
+    Full(usize),
 }
 
 impl List<'_> {
+    /// The height of the tree of a row over listed ones: one more than the greater height of its children.
+    fn height(&self, [symbol, left, right]: [u16; 3]) -> usize {
+        match symbol {
+            0 => 0,
+            _ => 1 + self.heights[left as usize].max(self.heights[right as usize]),
+        }
+    }
+
     /// Lists a kind unless it is listed.
     fn offer(&mut self, row: [u16; 3], kind: Kind) -> Result<(), Stop> {
         if self.listed.contains(&kind) {
             return Ok(());
         }
+        let height = self.height(row);
         if self.rows.len() == self.limit {
-            return Err(Stop::Full);
+            return Err(Stop::Full(height));
         }
         self.listed.insert(kind);
         self.rows.push(row);
+        self.heights.push(height);
         self.words.push(kind);
         self.parts.push(self.kinds.parts(&kind));
         if self.kinds.breaks(&kind) {
@@ -103,6 +114,7 @@ pub fn check(contract: &Contract, limit: usize, rows: &mut [u16], words: &mut [u
         kinds: Kinds::new(contract),
         limit,
         rows: Vec::new(),
+        heights: Vec::new(),
         words: Vec::new(),
         parts: Vec::new(),
         listed: HashSet::default(),
@@ -110,8 +122,9 @@ pub fn check(contract: &Contract, limit: usize, rows: &mut [u16], words: &mut [u
     let ended = list.rounds(contract.symbols);
     rows.fill(0);
     words.fill(0);
-    if let Err(Stop::Full) = ended {
-        return Err((10, limit));
+    if let Err(Stop::Full(left_out)) = ended {
+        // rounds list kinds by height: those of all lower trees are listed
+        return Ok(Answer::Stopped { limit, height: left_out - 1 });
     }
     for (place, (row, kind)) in list.rows.iter().zip(&list.words).enumerate() {
         rows[3 * place..3 * place + 3].copy_from_slice(row);

@@ -12,7 +12,7 @@ module _ (S : ℕ) where
   -- "one that allows a tree exactly if both do", of what merging left in its buffers
   both-allow : (Y Z M : OutputType) → MergedBy S Y Z M → (u : Tree) → TypeAllows M u ↔ (TypeAllows Y u × TypeAllows Z u)
   both-allow Y Z M by u =
-      rw (by .made) (merging-means S Y S Z (by .tableBuffer) (by .marksBuffer) .isMerged (by .states) (by .answered) .allows u)
+      rw (by .made) (merging-means S Y (by .secondSymbols) Z (by .tableBuffer) (by .marksBuffer) .isMerged (by .states) (by .answered) .allows u)
 
   -- of each part of a plan
   abbrev All : Plan → Tree → Type 0

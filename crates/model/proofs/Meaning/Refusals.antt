@@ -15,7 +15,7 @@ use Rattle.model.specs.Refusals.{Reason, FirstReason, RefusesFor, Refuse
 use Rattle.model.proofs.Laws.Answers.{refusal-admits-nothing, given-fine, given-refused}
 use Rattle.model.proofs.Rounds.Stopping.{Ending, shows, passes, stops, check-ends}
 use Rattle.model.proofs.Meaning.Runs.{running-refusal}
-use Rattle.model.proofs.Meaning.Verdicts.{admission-refusals, judging-refusals, checking-refusals, running-refusals, writing-refusals, running-numbers}
+use Rattle.model.proofs.Meaning.Verdicts.{admission-refusals, judging-refusals, checking-refusals, running-refusals, writing-refusals, judging-numbers, checking-numbers, running-numbers}
 
 -- an operation r that gives its verdict's refusal, with the buffers as they were lent, or else a, which is no refusal of these numbers
 module _ {R : Type 0} (r : R) (v : Verdict) (onRefusal : ℕ → ℕ → R) (a : R) (gives : r ≡ given v onRefusal a) (answer : R → Answer)
@@ -34,6 +34,10 @@ module _ {R : Type 0} (r : R) (v : Verdict) (onRefusal : ℕ → ℕ → R) (a :
           let em : m ≡ number = cc in
           let eq : q ≡ place = cc in
           f ∙ ap₂ refused em eq
+
+  refused-by : ((number place : ℕ) → answer a ≡ refusal number place → ⊥) → (number place : ℕ) → answer r ≡ refusal number place → v ≡ refused number place
+  refused-by never number place e =
+      told number place (λ f g. never number place (sym (ap answer (gives ∙ given-fine onRefusal a v f)) ∙ g)) e
 
   module _ (reasons : List Reason) (for : RefusesFor reasons v) where
     -- where Early says which numbers are meant
@@ -114,4 +118,14 @@ operation-refusals =
           all-refuse (writingOut rows row buffer) (writingVerdict rows row buffer) _ _ refl (λ (w : Written). w .answer)
           (λ (w : Written). w .numbers ∷ []) (buffer ∷ []) (λ n p. (refl, refl)) _ (writing-refusals rows row buffer)
           (λ n p e. written-no-refusal e);
+      judgingNotTen = λ C numbers buffer place e.
+          judging-numbers C numbers buffer 10 place
+          (refused-by (judging C numbers buffer) (judgingVerdict C numbers buffer) _ _ refl (λ (j : Judged). j .answer) (λ (j : Judged). j .words ∷ [])
+          (buffer ∷ []) (λ n p. (refl, refl)) (λ n p f. judged-no-refusal f) 10 place e)
+          refl;
+      checkingNotTen = λ C L rows words place e.
+          checking-numbers C L rows words 10 place
+          (refused-by (checking C L rows words) (checkingVerdict C L rows words) _ _ refl (λ (c : Checked). c .answer)
+          (λ (c : Checked). c .rows ∷ c .words ∷ []) (rows ∷ words ∷ []) (λ n p. (refl, refl)) (λ n p f. check-no-refusal C L n p f) 10 place e)
+          refl;
     }

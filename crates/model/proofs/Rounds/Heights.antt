@@ -1,19 +1,19 @@
 -- Heights: up to which height the first L kinds are those of every tree, and that it is told by the rounds.
-use mathlib.Core.Path.{_≡_, refl, ap, sym, _∙_}
+use mathlib.Core.Path.{_≡_, ap, subst, sym, _∙_}
 use mathlib.Core.List.{List}
 use mathlib.Core.Logic.{_↔_, _⊎_, inl, inr}
 use Prim.Native.Nat.{ℕ, zero, suc, _+_, _<_, _≤_}
 use native.Mathlib.Omega.{arith}
 use native.Mathlib.Decide.{decLt}
 use lib.Dec.{T}
-use lib.ListN.{length, take, length-take}
+use lib.ListN.{length, length-take}
 use Rattle.foundation.specs.Tests.{test-true, test-false}
 use Rattle.foundation.specs.Search.{greatest, greatest-at}
 use Rattle.model.specs.Trees.{Tree, height, everyTree}
 use Rattle.model.specs.Tables.{Contract}
 use Rattle.model.specs.Kinds.{kindOf}
-use Rattle.model.specs.Rounds.{TreeAutomaton, kindAutomaton, ListedKind, kindAt, rounds}
-use Rattle.model.specs.Checking.{amongFirst, stopHeight}
+use Rattle.model.specs.Rounds.{TreeAutomaton, kindAutomaton, ListedKind, kindAt, listing, rounds}
+use Rattle.model.specs.Checking.{firstKinds, amongFirst, stopHeight}
 use Rattle.model.specs.Meaning.{TreeOf, kindRounds, AmongFirst, Covers, LastHeld}
 use Rattle.model.proofs.Laws.Trees.{every-tree}
 use Rattle.model.proofs.Rounds.Growth.{Begins, begins-length, begins-state, rounds-begin, rounds-beginning, agree-state, take-begins}
@@ -26,31 +26,31 @@ module _ (C : Contract) (L : ℕ) where
   abbrev A : TreeAutomaton
   A = kindAutomaton C
 
-  -- the first L rows of the list
-  abbrev firstRows : List (ListedKind C)
-  firstRows = take L (rounds A L)
+  first-begin : Begins A (firstKinds C L) (rounds A L)
+  first-begin = subst (λ (rows : List (ListedKind C)). Begins A (firstKinds C L) rows) (listing-rounds A L) (take-begins A L (listing A L))
 
-  first-begin : Begins A firstRows (rounds A L)
-  first-begin = take-begins A L (rounds A L)
+  first-few : length (firstKinds C L) ≤ L
+  first-few = omega (arith, length-take L (listing A L))
 
   -- "its kind among the first L", as the test tells it
   told-among : (t : Tree) → T (amongFirst C L t) → AmongFirst C L (kindOf C t)
   told-among t a =
-      let there : HasState A firstRows (kindOf C t) = lists-has A (kinds-decided C) firstRows (kindOf C t) (rw (listing-rounds A L) at a) in
+      let there : HasState A (firstKinds C L) (kindOf C t) = lists-has A (kinds-decided C) (firstKinds C L) (kindOf C t) a in
       record {
         round = L;
         row = there .index;
-        belowLimit = omega (arith, there .inside, length-take L (rounds A L));
+        belowLimit = omega (arith, there .inside, first-few);
         inside = omega (arith, there .inside, begins-length first-begin);
         found = begins-state first-begin (there .index) (there .inside) ∙ there .found;
       }
 
   among-told : (t : Tree) → AmongFirst C L (kindOf C t) → T (amongFirst C L t)
-  among-told t a = rw (listing-rounds A L) (has-lists A (kinds-decided C) firstRows (kindOf C t) (go (rounds-enough A L (rounds-beginning A (a .round)))))
+  among-told t a = has-lists A (kinds-decided C) (firstKinds C L) (kindOf C t) (go (rounds-enough A L (rounds-beginning A (a .round))))
     where
-      at : a .row < length (rounds A L) → HasState A firstRows (kindOf C t)
+      at : a .row < length (rounds A L) → HasState A (firstKinds C L) (kindOf C t)
       at inside =
-          let short : a .row < length firstRows = omega (arith, inside, a .belowLimit, length-take L (rounds A L)) in
+          let short : a .row < length (firstKinds C L) =
+          omega (arith, inside, a .belowLimit, length-take L (listing A L), ap length (listing-rounds A L)) in
           record {
             index = a .row;
             inside = short;
@@ -60,7 +60,7 @@ module _ (C : Contract) (L : ℕ) where
                 ∙ a .found;
           }
 
-      go : (L < length (rounds A L)) ⊎ (length (rounds A (a .round)) ≤ length (rounds A L)) → HasState A firstRows (kindOf C t)
+      go : (L < length (rounds A L)) ⊎ (length (rounds A (a .round)) ≤ length (rounds A L)) → HasState A (firstKinds C L) (kindOf C t)
       go (inl l) = at (omega (arith, a .belowLimit))
       go (inr l) = at (omega (arith, a .inside))
 
@@ -120,9 +120,11 @@ module _ (C : Contract) (L : ℕ) where
     pub stop-height-at : stopHeight C L ≡ h
     unfolding stopHeight
     stop-height-at =
+        let found : greatest (λ k. everyTree (C .transformation .symbols) k (amongFirst C L)) L ≡ h =
         greatest-at (λ k. everyTree (C .transformation .symbols) k (amongFirst C L)) L h held-below
         (test-true _ (covers-exactly h .1 held-covers))
-        (λ k above below. test-false _ (λ e. let l = held-greatest k (covers-exactly k .0 e) in absurd (omega arith)))
+        (λ k above below. test-false _ (λ e. let l = held-greatest k (covers-exactly k .0 e) in absurd (omega arith))) in
+        omega (arith, found)
 
   -- where some round lists more rows than the limit, there is such a round before it: round 0 lists one row
   pub last-held : 1 ≤ L → (k : ℕ) → L < length (rounds A k) → (h : ℕ) × LastHeld C L h
