@@ -13,7 +13,6 @@ use Rattle.kind_slots.specs.Slots.{isFree, slotOf, entryOf, Entered}
 use Rattle.kind_slots.proofs.Finding.{slots-tell}
 use Rattle.kind_lists.specs.Listing.{withRow, Offering, Becomes, offering}
 use Rattle.kind_lists.specs.Closing.{rowsStanding}
-use Rattle.kind_lists.specs.declared.Progress.{Progress}
 use Rattle.kind_lists.specs.declared.Progress.the-variants as progress
 use Rattle.kind_lists.specs.declared.Ending.{Ending}
 use Rattle.kind_lists.specs.declared.Ending.the-variants as ending

@@ -18,6 +18,6 @@ pub enum Ending {
     All(usize),
     // This row breaks the contract.
     Breaks(usize),
-    // There are more kinds than rows; those of all trees up to this height are listed, and no more heights are.
+    // There are more kinds than rows: this is the greatest height up to which those of all trees are listed.
     Full(usize),
 }

@@ -1,8 +1,8 @@
 -- Meaning: what a script prints. Its statements are taken one after another; each changes the state and prints its lines.
-use mathlib.Core.Bool.{Bool, true, false, _&&_, _||_, not}
+use mathlib.Core.Bool.{Bool, true, false, _&&_, not}
 use mathlib.Core.List.{List, [], _∷_, _++_}
 use Prim.Native.Nat.{ℕ, zero, suc, _+_, _*_, _-_}
-use lib.Dec.{eqb, leb, ltb}
+use lib.Dec.{leb, ltb}
 use lib.ListN.{length, getD, take, set, replicate}
 use Rattle.foundation.specs.Tests.{choose}
 use Rattle.foundation.specs.Lists.{sameList}

@@ -1,5 +1,5 @@
 -- The law of merging: a type allows exactly the trees that all its parts allow, however it was put together.
-use mathlib.Core.Path.{_≡_, refl, subst, sym}
+use mathlib.Core.Path.{refl, subst, sym}
 use mathlib.Core.Logic.{_↔_, _⊎_, inl, inr}
 use Prim.Native.Nat.{ℕ}
 use Rattle.model.specs.Trees.{Tree}

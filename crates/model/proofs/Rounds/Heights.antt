@@ -14,7 +14,7 @@ use Rattle.model.specs.Tables.{Contract}
 use Rattle.model.specs.Kinds.{kindOf}
 use Rattle.model.specs.Rounds.{TreeAutomaton, kindAutomaton, ListedKind, kindAt, listing, rounds}
 use Rattle.model.specs.Checking.{firstKinds, amongFirst, stopHeight}
-use Rattle.model.specs.Meaning.{TreeOf, kindRounds, AmongFirst, Covers, LastHeld}
+use Rattle.model.specs.Meaning.{AmongFirst, Covers, LastHeld}
 use Rattle.model.proofs.Laws.Trees.{every-tree}
 use Rattle.model.proofs.Rounds.Growth.{Begins, begins-length, begins-state, rounds-begin, rounds-beginning, agree-state, take-begins}
 use Rattle.model.proofs.Rounds.Covering.{treeState, kind-state, kinds-decided, HasState, lists-has, has-lists, tree-listed}
