@@ -55,7 +55,7 @@ same-length-2 c = at-lengths _ _ _ _ _ _ _ _ (c .before .before .before .before 
 returns : tie.Need-returns Inv-loop μ-loop
 returns c =
     concluded _ _ _ _ (c .ending-of .ensures)
-    (concludes _ _ _ _ _ _ (c .before .before .before .before .before .before .one-round .result) (c .before .match .keys2) (between-held (c .before .before .before .before .before .before .before .before .before .before .before .before .before .before .before .before .before .before .before .before .loop .inv .0)) (c .before .before .before .before .before .before .one-round .ensures))
+    (concludes _ _ _ _ _ _ _ (c .before .before .before .before .before .before .one-round .result) (omega arith) (c .before .match .keys2) (between-held (c .before .before .before .before .before .before .before .before .before .before .before .before .before .before .before .before .before .before .before .before .loop .inv .0)) (c .before .before .before .before .before .before .one-round .ensures))
 
 add-height : tie.Need-add-height Inv-loop μ-loop
 add-height c =
