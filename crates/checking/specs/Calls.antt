@@ -11,7 +11,7 @@ use Rattle.model.specs.Tables.{Contract}
 use Rattle.model.specs.Answers.{Answer, pass, tree, refusal, stopped}
 use Rattle.model.specs.Checking.{Checked, standing, checking}
 use Rattle.model.specs.Claims.{Breaks, Admitted, OneTransformation, SameButMarks, Within}
-use Rattle.model.specs.Meaning.{TreeOf, NoTreeBreaks, kindRounds, PassMeans, FirstBreaks, LeastBreaking, StopMeans, Fits, OneOfThree}
+use Rattle.model.specs.Meaning.{TreeOf, NoTreeBreaks, kindRounds, PassMeans, FirstBreaks, LeastBreaking, StopMeans, StopTells, Fits, OneOfThree}
 use Rattle.model.specs.Demand.{SameAnswer}
 use Rattle.kind_lists.specs.Closing.{Gives}
 
@@ -50,6 +50,7 @@ pub record CallMeans {C : Contract} {L : ℕ} (call : Call C L) : Type 0 where
   pub treeExactly : (j : ℕ) → (call .answer ≡ tree j) ↔ (LetIn call × FirstBreaks C L j)
   pub treeLeast : (j : ℕ) → call .answer ≡ tree j → LeastBreaking C (treeAt (call .closingRows) j)
   pub stopExactly : (limit h : ℕ) → (call .answer ≡ stopped limit h) ↔ (LetIn call × (limit ≡ L) × StopMeans C L h)
+  pub stopTells : (limit h : ℕ) → call .answer ≡ stopped limit h → StopTells C L h
   -- the rows and words that stand are those of the rounds, the rest is 0
   pub passRows : (n : ℕ) → call .answer ≡ pass n → returned call ≡ standing C L (pass n) (kindRounds C L)
   pub treeRows : (j : ℕ) → call .answer ≡ tree j → returned call ≡ standing C L (tree j) (take (suc j) (kindRounds C L))

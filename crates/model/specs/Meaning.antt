@@ -162,17 +162,20 @@ pub record AmongFirst (C : Contract) (L : ℕ) (kind : List ℕ) : Type 0 where
 abbrev pub Covers : Contract → (L h : ℕ) → Type 0
 Covers C L h = (t : Tree) → TreeOf C t → height t ≤ h → AmongFirst C L (kindOf C t)
 
--- round h is the one before that in which the first kind left out is listed
+-- what refusal 10 under limit L with height h says: "the greatest height h such that every tree of height h or less has its kind among the
+-- first L" (change request W-214)
+pub record StopMeans (C : Contract) (L h : ℕ) : Type 0 where
+  pub stops : Stops C L
+  pub covers : Covers C L h
+  pub isGreatest : (k : ℕ) → Covers C L k → k ≤ h
+
+-- the limit holds the list of round h, and not that of the next, which lists the first kind left out
 pub record LastHeld (C : Contract) (L h : ℕ) : Type 0 where
   pub held : length (kindRounds C h) ≤ L
   pub leftOut : L < length (kindRounds C (suc h))
 
--- what refusal 10 under limit L with height h says
-pub record StopMeans (C : Contract) (L h : ℕ) : Type 0 where
-  pub stops : Stops C L
-  -- "the greatest height h such that every tree of height h or less has its kind among the first L" (change request W-214)
-  pub covers : Covers C L h
-  pub isGreatest : (k : ℕ) → Covers C L k → k ≤ h
+-- what follows of it
+pub record StopTells (C : Contract) (L h : ℕ) : Type 0 where
   -- "no document of height h or less breaks the contract"
   pub noneLow : (t : Tree) → TreeOf C t → height t ≤ h → Breaks C t → ⊥
   pub lastHeld : LastHeld C L h
@@ -211,6 +214,7 @@ pub record CheckMeans (C : Contract) (lent : Lent) : Type 0 where
   pub treeExactly : (j : ℕ) → (checkOf C lent .answer ≡ tree j) ↔ FirstBreaks C (lent .limit) j
   pub treeLeast : (j : ℕ) → checkOf C lent .answer ≡ tree j → LeastBreaking C (treeAt (checkOf C lent .rows) j)
   pub stopExactly : (h : ℕ) → (checkOf C lent .answer ≡ stopped (lent .limit) h) ↔ StopMeans C (lent .limit) h
+  pub stopTells : (h : ℕ) → checkOf C lent .answer ≡ stopped (lent .limit) h → StopTells C (lent .limit) h
   -- the rows and words that stand are those of the rounds
   pub passRows : (n : ℕ) → checkOf C lent .answer ≡ pass n → checkOf C lent ≡ standing C (lent .limit) (pass n) (kindRounds C (lent .limit))
   pub treeRows : (j : ℕ) → checkOf C lent .answer ≡ tree j

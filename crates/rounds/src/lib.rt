@@ -70,7 +70,7 @@ fn one_round(
     Progress::Going(total)
 }
 
-// The rounds from 1 on, over the rows of round 0, until one adds nothing. Round h lists the kinds of the trees of height h.
+// The rounds from 1 on, over the rows of round 0, until one adds nothing. After round h the kinds of all trees up to height h are listed.
 fn all_rounds(
     prepared: Prepared,
     table: &[u16],

@@ -47,11 +47,11 @@ fn of_whole(document: &[u16], answer: Answer) -> Answer {
     }
 }
 
-/// A build's answer without the height of a stop, which an old one may not tell.
-fn without_height(answer: Answer) -> Answer {
-    match answer {
-        Answer::Stopped { limit, .. } => Answer::Stopped { limit, height: 0 },
-        other => other,
+/// An old build's answer to a check that a new one answers so: it may not tell the height of a stop.
+fn with_height_of(new: Answer, old: Answer) -> Answer {
+    match (new, old) {
+        (Answer::Stopped { height, .. }, Answer::Stopped { limit, .. }) => Answer::Stopped { limit, height },
+        _ => old,
     }
 }
 
@@ -88,12 +88,15 @@ fn of_kinds<B: Clone + PartialEq + Debug>(
 }
 
 fn checking(new: Library, old: Library, contract: &Contract, limit: usize) -> Times {
+    let buffers = (vec![7; 3 * limit], vec![7; 5 * limit]);
+    let (mut rows, mut words) = buffers.clone();
+    let answer = new.check(contract, limit, &mut rows, &mut words);
     of_kinds(
         [new, old],
         || format!("check {limit} {contract:?}"),
-        (vec![7; 3 * limit], vec![7; 5 * limit]),
-        |(rows, words)| without_height(new.check(contract, limit, rows, words)),
-        |(rows, words)| without_height(old.check(contract, limit, rows, words)),
+        buffers,
+        |(rows, words)| new.check(contract, limit, rows, words),
+        |(rows, words)| with_height_of(answer, old.check(contract, limit, rows, words)),
     )
 }
 

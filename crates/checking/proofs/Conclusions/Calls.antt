@@ -157,6 +157,7 @@ module _ {C : Contract} {L : ℕ} (call : Call C L) where
           λ e. let good = stop-let-in limit h e in (good, own-limit limit h e, means good .stopExactly h .0 (told (stopped-at limit h e))),
           λ m. call .gives .answered ∙ means (m .0) .stopExactly h .1 (m .2) ∙ ap (λ (l : ℕ). stopped l h) (sym (m .1)),
         );
+        stopTells = λ limit h e. means (stop-let-in limit h e) .stopTells h (told (stopped-at limit h e));
         passRows = λ n e. returned-is ∙ means (pass-let-in n e) .passRows n (told e);
         treeRows = λ j e. returned-is ∙ means (tree-let-in j e) .treeRows j (told e);
         stopCleared = λ limit h e.

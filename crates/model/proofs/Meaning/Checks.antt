@@ -15,7 +15,7 @@ use Rattle.model.proofs.Laws.Admitted.{established}
 use Rattle.model.proofs.Rounds.Stopping.{checking-check}
 use Rattle.model.proofs.Meaning.Kinds.{breaks-exactly}
 use Rattle.model.proofs.Meaning.Answers.{Meaning, a-pass, a-tree, a-stop, check-means, pass-exactly, tree-row-exactly, tree-means, pass-closes, stop-closes}
-use Rattle.model.proofs.Meaning.Stops.{stop-means}
+use Rattle.model.proofs.Meaning.Stops.{stop-means, stop-tells}
 
 -- a check of an admitted contract
 pub check-of : (C : Contract) → Admitted C → (lent : Lent) → checkOf C lent ≡ check C (lent .limit)
@@ -35,6 +35,7 @@ check-meaning C good lent =
       treeExactly = λ j. rw (check-of C good lent) (tree-row-exactly C (lent .limit) j);
       treeLeast = λ j. rw (check-of C good lent) (λ e. tree-means C exactly (lent .limit) j e .shown);
       stopExactly = λ h. rw (check-of C good lent) (stop-means C exactly (lent .limit) (lent .fits .atLeast) h);
+      stopTells = λ h. rw (check-of C good lent) (stop-tells C exactly (lent .limit) (lent .fits .atLeast) h);
       passRows = λ n. rw (check-of C good lent) (pass-closes C (lent .limit) n);
       treeRows = λ j. rw (check-of C good lent) (λ e. tree-means C exactly (lent .limit) j e .firstRows);
       stopRows = λ h. rw (check-of C good lent) (stop-closes C (lent .limit) h);

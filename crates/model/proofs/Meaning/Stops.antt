@@ -3,6 +3,7 @@
 use mathlib.Core.Path.{_≡_, ap, sym, _∙_}
 use mathlib.Core.Logic.{_↔_}
 use Prim.Native.Nat.{ℕ, _≤_}
+use native.Mathlib.Omega.{arith}
 use lib.Dec.{T}
 use Rattle.foundation.specs.Tests.{false-test}
 use Rattle.model.specs.Trees.{Tree, height}
@@ -11,7 +12,7 @@ use Rattle.model.specs.Answers.{stopped}
 use Rattle.model.specs.Kinds.{kindOf, breaks}
 use Rattle.model.specs.Checking.{stopHeight, check}
 use Rattle.model.specs.Claims.{Breaks}
-use Rattle.model.specs.Meaning.{TreeOf, Stops, Covers, LastHeld, StopMeans}
+use Rattle.model.specs.Meaning.{TreeOf, Stops, Covers, LastHeld, StopMeans, StopTells}
 use Rattle.model.proofs.Rounds.Heights.{held-covers, held-greatest, stop-height-at, last-held}
 use Rattle.model.proofs.Rounds.Stopping.{Ending, shows, passes, stops, check-ends}
 use Rattle.model.proofs.Meaning.Answers.{standing-answer, pass-not-stopped, tree-not-stopped, stop-exactly}
@@ -23,17 +24,16 @@ module _ (C : Contract) (breaksExactly : (t : Tree) → TreeOf C t → T (breaks
       let a = covers t over low in
       false-test _ (keep .firstKeep (a .round) .keeps (a .row) (a .belowLimit) (a .inside)) (rw (← a .found) at (breaksExactly t over .1 b))
 
-  held-means : (h : ℕ) → Stops C L → LastHeld C L h → StopMeans C L h
-  held-means h keep last =
-      let covers = held-covers C L h last in
-      record { stops = keep; covers = covers; isGreatest = held-greatest C L h last; noneLow = none-low h keep covers; lastHeld = last }
+  -- a check that stops, under a limit of 1 or more
+  module _ (some : 1 ≤ L) where
+    record Stopped (h : ℕ) : Type 0 where
+      stops : Stops C L
+      last : LastHeld C L h
 
-  -- a check that stops at height h, under a limit of 1 or more
-  module _ (some : 1 ≤ L) (h : ℕ) where
-    stop-tells : check C L .answer ≡ stopped L h → StopMeans C L h
-    stop-tells e = go (check-ends C L)
+    how-stopped : (h : ℕ) → check C L .answer ≡ stopped L h → Stopped h
+    how-stopped h e = go (check-ends C L)
       where
-        go : Ending C L (check C L) → StopMeans C L h
+        go : Ending C L (check C L) → Stopped h
         go (shows j jL l b none q) = absurd (tree-not-stopped (standing-answer C L _ _ q) e)
         go (passes end l none q) = absurd (pass-not-stopped (standing-answer C L _ _ q) e)
         go (stops l none q) =
@@ -41,10 +41,23 @@ module _ (C : Contract) (breaksExactly : (t : Tree) → TreeOf C t → T (breaks
             let same : stopHeight C L ≡ h = cc in
             let (k, last) = last-held C L some L l in
             let at : k ≡ h = sym (stop-height-at C L k last) ∙ same in
-            held-means h (stop-exactly C breaksExactly L .0 said) (rw at at last)
+            record { stops = stop-exactly C breaksExactly L .0 said; last = rw at at last }
 
-    tells-stop : StopMeans C L h → check C L .answer ≡ stopped L h
-    tells-stop m = stop-exactly C breaksExactly L .1 (m .stops) ∙ ap (stopped L) (stop-height-at C L h (m .lastHeld))
+    -- of two heights that are each the greatest, neither is greater
+    must-stop : (h : ℕ) → StopMeans C L h → check C L .answer ≡ stopped L h
+    must-stop h m =
+        let said = stop-exactly C breaksExactly L .1 (m .stops) in
+        let last = how-stopped (stopHeight C L) said .last in
+        let same : stopHeight C L ≡ h = omega (arith, m .isGreatest _ (held-covers C L _ last), held-greatest C L _ last h (m .covers)) in
+        said ∙ ap (stopped L) same
 
-    pub stop-means : (check C L .answer ≡ stopped L h) ↔ StopMeans C L h
-    stop-means = (stop-tells, tells-stop)
+    pub stop-means : (h : ℕ) → (check C L .answer ≡ stopped L h) ↔ StopMeans C L h
+    stop-means h = (
+      λ e. let how = how-stopped h e in record { stops = how .stops; covers = held-covers C L h (how .last); isGreatest = held-greatest C L h (how .last) },
+      must-stop h,
+    )
+
+    pub stop-tells : (h : ℕ) → check C L .answer ≡ stopped L h → StopTells C L h
+    stop-tells h e =
+        let how = how-stopped h e in
+        record { noneLow = none-low h (how .stops) (held-covers C L h (how .last)); lastHeld = how .last }
