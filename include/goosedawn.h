@@ -107,7 +107,8 @@ goosedawn_reply goosedawn_judge(GOOSEDAWN_CONTRACT, const uint16_t *numbers, siz
  *         stand; goosedawn_write_out gives the document
  *   refusal 10, the limit: there are more kinds than the limit and none of those listed breaks; both buffers are all 0.
  *         The reply's third value is the greatest height such that every tree of that height or less has its kind among
- *         those listed: no document of that height or less breaks the contract. Under a larger limit it is no smaller
+ *         those listed: no document of that height or less breaks the contract. A larger limit that stops too gives no
+ *         smaller one
  * A row is (symbol, left row, right row), a kind five words as in judging; the rest of both buffers is 0. */
 goosedawn_reply goosedawn_check(GOOSEDAWN_CONTRACT, size_t limit, uint16_t *rows, size_t rows_length, uint64_t *words,
                                 size_t words_length);
@@ -200,7 +201,10 @@ typedef struct {
  *
  * Of contracts that differ in their output type alone, the one with the merged type passes exactly if the one with the
  * first type and the one with the second both pass, provided that none of the three checks is refused. It may have more
- * facts and more kinds than the other two, so that it may be refused by 8 or 10 where they are not. */
+ * facts and more kinds than the other two, so that it may be refused by 8 or 10 where they are not.
+ *
+ * A merged type may be merged again. The order and the grouping do not change which trees are allowed in the end, and
+ * neither does it to take a type more than once. */
 goosedawn_merging goosedawn_merge(size_t symbols, size_t states, const uint16_t *table, size_t table_length,
                                   const uint16_t *marks, size_t marks_length, size_t second_symbols,
                                   size_t second_states, const uint16_t *second_table, size_t second_table_length,

@@ -145,6 +145,9 @@ pub trait Engine {
     /// So where a contract is checked with each of the two types and with the merged one, and no check is refused, the
     /// merged one passes exactly if both others do.
     ///
+    /// A merged type may be merged again. The order and the grouping do not change which trees are allowed in the end, and
+    /// neither does it to take a type more than once.
+    ///
     /// ```
     /// use goosedawn::contract::OutputType;
     /// use goosedawn::engine::Engine;

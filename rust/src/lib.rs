@@ -9,6 +9,7 @@
 //! * [`generator`]: random contracts, documents, rows, pairs of buffers and pairs of output types, valid and damaged, from
 //!   a seed.
 //! * [`counters`]: contracts that count, with as many kinds as wanted, or with all of them at one slot.
+//! * [`trees`]: all trees up to a height, and the heights of those that rows stand for.
 //! * [`comparison`]: two engines asked the same random questions.
 //! * [`timing`]: how long two engines take for the same question.
 

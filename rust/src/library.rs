@@ -233,7 +233,7 @@ impl Library {
     }
 
     /// An older build, which `tests/compare` renames and links beside the present one. How many numbers a document took
-    /// is not to be read from its answers. `shorter`, `shorter_refusal` and `merge` are the present build's: an older one
+    /// and the height of a stop are not to be read from its answers. `shorter`, `shorter_refusal` and `merge` are the present build's: an older one
     /// may not have them.
     #[cfg(feature = "compare")]
     pub fn old() -> Library {

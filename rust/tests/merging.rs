@@ -8,6 +8,7 @@ use goosedawn::generator::{document, merging, output_tables, valid, Merging, Ran
 use goosedawn::library::Library;
 use goosedawn::model::Model;
 use goosedawn::script::{checks, play};
+use goosedawn::trees::all_trees;
 
 /// Numbers that no merged table and no marks hold.
 const BEFORE: u16 = 7;
@@ -281,15 +282,41 @@ fn a_tree_is_allowed_exactly_if_both_allow_it() {
     assert!(met.iter().flatten().all(|&met| met > 5000), "{met:?}");
 }
 
-/// All trees over the symbols 0 and 1 of at most so much height.
-fn trees(height: usize) -> Vec<Vec<u16>> {
-    if height == 0 {
-        return vec![vec![0]];
+/// A merged type is merged again: whatever the order and the grouping, and however often a type is taken, a tree is allowed
+/// exactly if all types allow it.
+#[test]
+fn order_grouping_and_self_merging() {
+    let mut random = Random::new(2);
+    let mut met = [0; 4];
+    for _ in 0..2000 {
+        let symbols = random.within(1, 16);
+        let sizes = [[2, 2, 1], [2, 1, 2], [1, 2, 2], [1, 1, 4], [4, 1, 1], [1, 3, 1], [2, 1, 1]][random.below(7)];
+        let types = sizes.map(|states| output_tables(&mut random, symbols, states));
+        let [a, b, c] = [0, 1, 2].map(|which| types[which].output_type());
+        let together = |first: &OutputTables, second: &OutputTables| merged(first.output_type(), second.output_type());
+        let mut ways = vec![
+            together(&merged(a, b), &types[2]),
+            together(&types[0], &merged(b, c)),
+            together(&merged(b, a), &types[2]),
+            together(&types[2], &merged(b, a)),
+            together(&merged(c, a), &types[1]),
+        ];
+        for (once, other) in [(a, together(&types[1], &types[2])), (b, merged(a, c)), (c, merged(a, b))] {
+            if once.states * once.states * other.states <= 4 {
+                ways.push(together(&merged(once, once), &other));
+            }
+        }
+        for size in 0..20 {
+            let tree = document(&mut random, symbols, size);
+            let allowing = [a, b, c].into_iter().filter(|of| allows(*of, &tree)).count();
+            for way in &ways {
+                assert_eq!(allows(way.output_type(), &tree), allowing == 3, "{tree:?} {types:?}");
+            }
+            met[allowing] += 1;
+        }
     }
-    let below = trees(height - 1);
-    let over = |left: &Vec<u16>, right: &Vec<u16>| [&[1], left.as_slice(), right].concat();
-    let joined = below.iter().flat_map(|left| below.iter().map(move |right| over(left, right)));
-    [vec![0]].into_iter().chain(joined).collect()
+    println!("allowed by none, one, two, all of three types: {met:?}");
+    assert!(met.iter().all(|&met| met > 1000), "{met:?}");
 }
 
 /// All types over the symbols 0 and 1 with so many states, one or two.
@@ -309,7 +336,7 @@ fn all_types(states: usize) -> Vec<OutputTables> {
 fn every_pair_of_small_types() {
     let types: Vec<_> = [1, 2].into_iter().flat_map(all_types).collect();
     assert_eq!(types.len(), 2 + 32 * 4);
-    let trees = trees(3);
+    let trees = all_trees(2, 3);
     assert_eq!(trees.len(), 26);
     for first in &types {
         for second in &types {

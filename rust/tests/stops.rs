@@ -1,5 +1,6 @@
 //! What a stop at the limit tells: the greatest height such that every tree of that height or less has its kind among the
-//! first L, by the model and by the proved library. Trees are written down and judged one by one; nothing is read off rounds.
+//! first L, by the model and by the proved library, where trees are written down and judged one by one; and, by the library,
+//! heights under growing limits.
 
 use goosedawn::contract::{tuple, Contract};
 use goosedawn::counters::Counters;

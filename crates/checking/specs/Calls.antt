@@ -1,5 +1,5 @@
 -- Calls of `check` and what a caller may conclude from what came back: demands 2 and 3 as statements of answers and closing
--- buffers. proofs/Conclusions proves them: `call-meaning`, `stops-no-lower` and `demand-3-of-calls`.
+-- buffers. proofs/Conclusions proves them: `call-meaning`, `larger-limit-stop-of-calls` and `demand-3-of-calls`.
 use mathlib.Core.Path.{_≡_}
 use mathlib.Core.List.{List}
 use mathlib.Core.Logic.{_↔_}
@@ -59,8 +59,8 @@ pub record CallMeans {C : Contract} {L : ℕ} (call : Call C L) : Type 0 where
       → (call .closingRows ≡ replicate (3 * L) 0) × (call .closingWords ≡ replicate (5 * L) 0)
 
 -- "a larger limit, if it stops too, never gives a smaller h" (change request W-214)
-abbrev pub StopsNoLower : {C : Contract} {L M : ℕ} (first : Call C L) (second : Call C M) → Type 0
-StopsNoLower first second = (limit larger h k : ℕ) → first .answer ≡ stopped limit h → second .answer ≡ stopped larger k → limit ≤ larger → h ≤ k
+abbrev pub CallLargerLimitStop : {C : Contract} {L M : ℕ} (first : Call C L) (second : Call C M) → Type 0
+CallLargerLimitStop first second = (limit larger h k : ℕ) → first .answer ≡ stopped limit h → second .answer ≡ stopped larger k → limit ≤ larger → h ≤ k
 
 -- "if the first passes, no tree breaks the second and its check shows none; if the first shows a document, every tree that
 -- breaks the second, shown or not, is at least as tall"

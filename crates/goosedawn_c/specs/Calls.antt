@@ -1,5 +1,6 @@
 -- What a caller in C or Rust may conclude from a check or a judgement: the reply and the closing buffers are those of a call, of
--- which `checking` says what they mean (`call-meaning`, `demand-3-of-calls`; of three calls, MergeReplies), and `judging` (`judged-call`, `judged-in-turn`).
+-- which `checking` says what they mean (`call-meaning`, `larger-limit-stop-of-calls`, `demand-3-of-calls`; of three calls, MergeReplies),
+-- and `judging` (`judged-call`, `judged-in-turn`).
 use mathlib.Core.Path.{_≡_, refl, ap, _∙_}
 use mathlib.Core.List.{List}
 use Prim.Native.Nat.{ℕ}

@@ -14,8 +14,8 @@ use Rattle.kind_slots.proofs.Finding.{slots-tell}
 use Rattle.kind_lists.specs.Listing.{withRow, Offering, Becomes, offering}
 use Rattle.kind_lists.specs.Closing.{rowsStanding}
 use Rattle.kind_lists.specs.declared.Progress.the-variants as progress
-use Rattle.kind_lists.specs.declared.Ending.{Ending}
-use Rattle.kind_lists.specs.declared.Ending.the-variants as ending
+use Rattle.kind_lists.specs.declared.ListEnd.{ListEnd}
+use Rattle.kind_lists.specs.declared.ListEnd.the-variants as list-end
 
 module _ (v : Verdicts) (limit n symbol left right : ℕ) (kind slots rows words : List ℕ) (e : Entered words n slots) {slot : ℕ} (searched : slot ≡ slotOf words slots kind) {listed : Bool} (occupied : listed ≡ not (isFree slots slot)) where
   abbrev pub outcome : Offering
@@ -55,5 +55,5 @@ module _ (v : Verdicts) (limit n symbol left right : ℕ) (kind slots rows words
         }
 
 -- the row that breaks a contract is few
-pub standing-small : (p : Ending) (j : ℕ) → p ≡ ending.Breaks j → rowsStanding p < 65536 → j + 1 < 65536
-standing-small p j e h = subst (λ (x : Ending). rowsStanding x < 65536) e h
+pub standing-small : (p : ListEnd) (j : ℕ) → p ≡ list-end.Breaks j → rowsStanding p < 65536 → j + 1 < 65536
+standing-small p j e h = subst (λ (x : ListEnd). rowsStanding x < 65536) e h

@@ -13,20 +13,20 @@ use Rattle.model.specs.Checking.{Checked, rowNumbers, kindNumbers, standing, ch
 use Rattle.model.specs.Meaning.{NoneBreaks}
 use Rattle.model.proofs.Rounds.Stopping.{check-tree, check-stop, check-pass}
 use Rattle.kind_lists.specs.Held.{Holds}
-use Rattle.kind_lists.specs.Outcomes.{Conclusion}
-use Rattle.kind_lists.specs.declared.Ending.{Ending}
-use Rattle.kind_lists.specs.declared.Ending.the-variants as ending
+use Rattle.kind_lists.specs.Outcomes.{ListEnds}
+use Rattle.kind_lists.specs.declared.ListEnd.{ListEnd}
+use Rattle.kind_lists.specs.declared.ListEnd.the-variants as list-end
 
 -- how many rows stand, and the answer
-abbrev pub rowsStanding : Ending → ℕ
-rowsStanding (ending.All n) = n
-rowsStanding (ending.Breaks j) = j + 1
-rowsStanding (ending.Full h) = 0
+abbrev pub rowsStanding : ListEnd → ℕ
+rowsStanding (list-end.All n) = n
+rowsStanding (list-end.Breaks j) = j + 1
+rowsStanding (list-end.Full h) = 0
 
-abbrev pub answerAfter : ℕ → Ending → Answer
-answerAfter limit (ending.All n) = pass n
-answerAfter limit (ending.Breaks j) = tree j
-answerAfter limit (ending.Full h) = stopped limit h
+abbrev pub answerAfter : ℕ → ListEnd → Answer
+answerAfter limit (list-end.All n) = pass n
+answerAfter limit (list-end.Breaks j) = tree j
+answerAfter limit (list-end.Full h) = stopped limit h
 
 -- an answer and closing buffers are those of a check
 pub record Gives (checked : Checked) (answer : Answer) (rows words : List ℕ) : Type 0 where
@@ -52,18 +52,18 @@ module _ (C : Contract) (limit : ℕ) (rows words : List ℕ) where
   unfolding standing rowNumbers kindNumbers
   nothing answer rowRoom wordRoom = record { answered = refl; rowsClosed = rw rowRoom; wordsClosed = rw wordRoom }
 
-  pub closes : (e : Ending) → Conclusion C limit rows words e
+  pub closes : (e : ListEnd) → ListEnds C limit rows words e
       → Gives (check C limit) (answerAfter limit e) (zeroFilled (length rows) (take (3 * rowsStanding e) rows)) (zeroFilled (length words) (take (5 * rowsStanding e) words))
-  closes (ending.All n) o =
+  closes (list-end.All n) o =
       let e = check-pass C limit (o .height) (o .ended) (o .holds .fits) (subst (λ (k : ℕ). NoneBreaks C k (rounds (kindAutomaton C) (o .height))) (o .counted) (o .none)) in
       rw e (subst (λ (k : ℕ). Gives (standing C limit (pass (length (rounds (kindAutomaton C) (o .height)))) (rounds (kindAutomaton C) (o .height))) (pass k) (zeroFilled (length rows) (take (3 * n) rows)) (zeroFilled (length words) (take (5 * n) words))) (sym (o .counted))
       (filled (pass (length (rounds (kindAutomaton C) (o .height)))) (rounds (kindAutomaton C) (o .height)) (o .holds) n (o .counted)))
-  closes (ending.Breaks j) o =
+  closes (list-end.Breaks j) o =
       let last = o .last in
       let fits = o .holds .fits in
       let e = check-tree C limit (o .list) (o .beginning) j (omega arith) (omega arith) (o .broken) (o .none) in
       let whole : take (suc j) (o .list) ≡ o .list = ap (λ (k : ℕ). take k (o .list)) (sym last) ∙ take-length (o .list) in
       rw (e, whole) (filled (tree j) (o .list) (o .holds) (j + 1) (omega arith))
-  closes (ending.Full h) o =
+  closes (list-end.Full h) o =
       let e = check-stop C limit h (o .last) (o .overfull .none) in
       rw e (nothing (stopped limit h) (o .overfull .rowRoom) (o .overfull .wordRoom))

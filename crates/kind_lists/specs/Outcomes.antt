@@ -15,14 +15,14 @@ use Rattle.kind_slots.specs.Slots.{Entered}
 use Rattle.kind_lists.specs.Held.{Holds}
 use Rattle.kind_lists.specs.declared.Progress.{Progress}
 use Rattle.kind_lists.specs.declared.Progress.the-variants as progress
-use Rattle.kind_lists.specs.declared.Ending.{Ending}
-use Rattle.kind_lists.specs.declared.Ending.the-variants as ending
+use Rattle.kind_lists.specs.declared.ListEnd.{ListEnd}
+use Rattle.kind_lists.specs.declared.ListEnd.the-variants as list-end
 
--- how the list ends where the offers of a round end so, over rows that have the kinds of all trees up to a height
-abbrev pub endingOf : ℕ → Progress → Ending
-endingOf height (progress.Going n) = ending.All n
-endingOf height (progress.Breaks j) = ending.Breaks j
-endingOf height progress.Full = ending.Full height
+-- how the list ends where the last offers end so and no more are due, all trees up to a height having their kinds in it
+abbrev pub endingOf : ℕ → Progress → ListEnd
+endingOf height (progress.Going n) = list-end.All n
+endingOf height (progress.Breaks j) = list-end.Breaks j
+endingOf height progress.Full = list-end.Full height
 
 module _ (C : Contract) where
   -- the buffers hold a list of n rows, the slots are its slots, and no row breaks the contract
@@ -75,7 +75,7 @@ module _ (C : Contract) where
     pub overfull : Overfull limit (suc h) rows words
 
   -- the end of the list
-  abbrev pub Conclusion : (limit : ℕ) (rows words : List ℕ) → Ending → Type 0
-  Conclusion limit rows words (ending.All n) = Passed limit n rows words
-  Conclusion limit rows words (ending.Breaks j) = Broken limit j rows words
-  Conclusion limit rows words (ending.Full h) = Stopped limit h rows words
+  abbrev pub ListEnds : (limit : ℕ) (rows words : List ℕ) → ListEnd → Type 0
+  ListEnds limit rows words (list-end.All n) = Passed limit n rows words
+  ListEnds limit rows words (list-end.Breaks j) = Broken limit j rows words
+  ListEnds limit rows words (list-end.Full h) = Stopped limit h rows words

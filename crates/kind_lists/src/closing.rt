@@ -6,41 +6,41 @@ ghost use Rattle.answers.specs.Numbers.{checkingAnswer};
 ghost use Rattle.kind_lists.specs.Listing.{clearedFrom};
 ghost use Rattle.kind_lists.specs.Closing.{rowsStanding, answerAfter};
 ghost use Rattle.kind_lists.specs.Outcomes.{endingOf};
-use crate::Ending;
+use crate::ListEnd;
 use crate::Progress;
 use answers::CheckingAnswer;
 
-// How the list ends where the offers of a round end so, over rows that have the kinds of all trees up to this height.
-pub fn ending_of(step: Progress, height: usize) -> Ending
+// How the list ends where the last offers end so and no more are due, all trees up to this height having their kinds in it.
+pub fn ending_of(step: Progress, height: usize) -> ListEnd
     ensures { λ r. ⌜ r ≡ endingOf height step ⌝ }
 {
     match step {
-        Progress::Going(count) => Ending::All(count),
-        Progress::Breaks(row) => Ending::Breaks(row),
-        Progress::Full => Ending::Full(height),
+        Progress::Going(count) => ListEnd::All(count),
+        Progress::Breaks(row) => ListEnd::Breaks(row),
+        Progress::Full => ListEnd::Full(height),
     }
 }
 
 // How many rows stand.
-pub fn rows_standing(ended: Ending) -> usize
+pub fn rows_standing(ended: ListEnd) -> usize
     requires { ⌜ rowsStanding ended < 65536 ⌝ }
     ensures { λ r. ⌜ r ≡ rowsStanding ended ⌝ }
 {
     match ended {
-        Ending::All(count) => count,
-        Ending::Breaks(row) => row + 1,
-        Ending::Full(_) => 0,
+        ListEnd::All(count) => count,
+        ListEnd::Breaks(row) => row + 1,
+        ListEnd::Full(_) => 0,
     }
 }
 
 // The answer of a check with this limit.
-pub fn answer_after(ended: Ending, limit: usize) -> CheckingAnswer
+pub fn answer_after(ended: ListEnd, limit: usize) -> CheckingAnswer
     ensures { λ r. ⌜ checkingAnswer r ≡ answerAfter limit ended ⌝ }
 {
     match ended {
-        Ending::All(count) => CheckingAnswer::Pass(count),
-        Ending::Breaks(row) => CheckingAnswer::Tree(row),
-        Ending::Full(height) => CheckingAnswer::Stopped(limit, height),
+        ListEnd::All(count) => CheckingAnswer::Pass(count),
+        ListEnd::Breaks(row) => CheckingAnswer::Tree(row),
+        ListEnd::Full(height) => CheckingAnswer::Stopped(limit, height),
     }
 }
 

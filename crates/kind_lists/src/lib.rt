@@ -13,7 +13,7 @@ pub enum Progress {
 }
 
 // How the list ends.
-pub enum Ending {
+pub enum ListEnd {
     // All kinds are listed, this many, and none breaks the contract.
     All(usize),
     // This row breaks the contract.

@@ -159,15 +159,15 @@ pub record AmongFirst (C : Contract) (L : ℕ) (kind : List ℕ) : Type 0 where
   pub found : kindAt C (kindRounds C round) row ≡ kind
 
 -- "every tree of height h or less has its kind among the first L"
-abbrev pub Covers : Contract → (L h : ℕ) → Type 0
-Covers C L h = (t : Tree) → TreeOf C t → height t ≤ h → AmongFirst C L (kindOf C t)
+abbrev pub AllAmongFirst : Contract → (L h : ℕ) → Type 0
+AllAmongFirst C L h = (t : Tree) → TreeOf C t → height t ≤ h → AmongFirst C L (kindOf C t)
 
 -- what refusal 10 under limit L with height h says: "the greatest height h such that every tree of height h or less has its kind among the
 -- first L" (change request W-214)
 pub record StopMeans (C : Contract) (L h : ℕ) : Type 0 where
   pub stops : Stops C L
-  pub covers : Covers C L h
-  pub isGreatest : (k : ℕ) → Covers C L k → k ≤ h
+  pub covers : AllAmongFirst C L h
+  pub isGreatest : (k : ℕ) → AllAmongFirst C L k → k ≤ h
 
 -- the limit holds the list of round h, and not that of the next, which lists the first kind left out
 pub record LastHeld (C : Contract) (L h : ℕ) : Type 0 where

@@ -186,32 +186,31 @@ pub record MergedBy (S : ℕ) (Y Z M : OutputType) : Type 0 where
   pub answered : merging S Y secondSymbols Z tableBuffer marksBuffer .answer ≡ merged states
   pub made : M ≡ typeIn S states (merging S Y secondSymbols Z tableBuffer marksBuffer .table) (merging S Y secondSymbols Z tableBuffer marksBuffer .marks)
 
--- how a type is put together by merging, what it is then, and of which parts
-pub data Plan : Type 0 where
-  part : OutputType → Plan
-  both : Plan → Plan → Plan
+-- how a type is put together by merging: a part, or two of these merged; what it is then, and which are its parts
+pub data MergeTree : Type 0 where
+  part : OutputType → MergeTree
+  both : MergeTree → MergeTree → MergeTree
 
-abbrev pub PutTogether : ℕ → Plan → OutputType → Type 0
+abbrev pub PutTogether : ℕ → MergeTree → OutputType → Type 0
 PutTogether S (part Y) M = M ≡ Y
 PutTogether S (both p q) M = (Y : OutputType) × (Z : OutputType) × PutTogether S p Y × PutTogether S q Z × MergedBy S Y Z M
 
-abbrev pub PartOf : OutputType → Plan → Type 0
+abbrev pub PartOf : OutputType → MergeTree → Type 0
 PartOf Y (part Z) = Y ≡ Z
 PartOf Y (both p q) = PartOf Y p ⊎ PartOf Y q
 
--- what two plans make, where merging refuses nothing, allows the same trees
-abbrev pub AllowSame : ℕ → (p q : Plan) → Type 0
+-- two types so put together, where merging refuses nothing, allow the same trees
+abbrev pub AllowSame : ℕ → (p q : MergeTree) → Type 0
 AllowSame S p q = (M N : OutputType) → PutTogether S p M → PutTogether S q N → (u : Tree) → TypeAllows M u ↔ TypeAllows N u
 
 -- "order, grouping and self-merging do not change which trees merged types allow, sizes permitting" (change request W-214)
 pub record MergeLaw (S : ℕ) : Type 0 where
   -- a type allows exactly the trees that all its parts allow, however it was put together
-  pub allowsAll : (p : Plan) (M : OutputType) → PutTogether S p M → (u : Tree) → TypeAllows M u ↔ ((Y : OutputType) → PartOf Y p → TypeAllows Y u)
-  -- so of the same parts, types are made that allow the same trees
-  pub sameParts : (p q : Plan) → ((Y : OutputType) → PartOf Y p ↔ PartOf Y q) → AllowSame S p q
-  pub order : (p q : Plan) → AllowSame S (both p q) (both q p)
-  pub grouping : (p q r : Plan) → AllowSame S (both (both p q) r) (both p (both q r))
-  pub self : (p : Plan) → AllowSame S (both p p) p
+  pub allowsAll : (p : MergeTree) (M : OutputType) → PutTogether S p M → (u : Tree) → TypeAllows M u ↔ ((Y : OutputType) → PartOf Y p → TypeAllows Y u)
+  -- so "order, grouping and self-merging" change nothing
+  pub order : (p q : MergeTree) → AllowSame S (both p q) (both q p)
+  pub grouping : (p q r : MergeTree) → AllowSame S (both (both p q) r) (both p (both q r))
+  pub self : (p : MergeTree) → AllowSame S (both p p) p
 
 -- a contract with another output type
 abbrev pub withOutput : Contract → OutputType → Contract

@@ -12,7 +12,7 @@ use Rattle.model.specs.Trees.{Tree, Over, preorder}
 use Rattle.model.specs.Tables.{Contract, inputRow, inputRowCount, Node, nodeAt, nodeCount, ruleAt, ruleCount}
 use Rattle.model.specs.Rows.{rowAt, rowCount, treeAt}
 use Rattle.model.specs.Facts.{factTotal}
-use Rattle.model.specs.Answers.{Verdict, fine, refused, refusal}
+use Rattle.model.specs.Answers.{Verdict, fine, refused, Answer, refusal}
 use Rattle.model.specs.Admission.{sizeWrong, lengthWrong, inputRowWrong, entryWrong, countWrong, tagWrong, nameWrong, childWrong, referenceWrong, unusedFilled, ruleWrong, mostFacts, admit}
 use Rattle.model.specs.Documents.{mostNumbers, documentTree, numbersTaken, leadingTree, leadingVerdict, wholeVerdict}
 use Rattle.model.specs.Judging.{judging}
@@ -220,6 +220,9 @@ pub data AdmissionNumber (number : ℕ) : Type 0 where
 abbrev pub NotOfRun : ℕ → Type 0
 NotOfRun number = 13 ≤ number → number ≤ 15 → ⊥
 
+abbrev pub NotTen : Answer → Type 0
+NotTen answer = (place : ℕ) → answer ≡ refusal 10 place → ⊥
+
 -- "a refusal carries a number and a place and leaves the lent buffers as document 01 states": the refusals of the five operations,
 -- but for checking's 10, which is an answer of its own, and running's 13 to 15; these come of the work itself
 pub record OperationRefusals : Type 0 where
@@ -239,6 +242,8 @@ pub record OperationRefusals : Type 0 where
       → Refuses (writingReasons rows row buffer) (λ number place. writingOut rows row buffer .answer ≡ refusal number place) (buffer ∷ [])
       (writingOut rows row buffer .numbers ∷ [])
   -- so 10 is the number of a stop alone
-  pub judgingNotTen : (C : Contract) (numbers buffer : List ℕ) (place : ℕ) → judging C numbers buffer .answer ≡ refusal 10 place → ⊥
-  pub checkingNotTen : (C : Contract) (L : ℕ) (rowBuffer wordBuffer : List ℕ) (place : ℕ)
-      → checking C L rowBuffer wordBuffer .answer ≡ refusal 10 place → ⊥
+  pub admissionNotTen : (C : Contract) → NotTen (admit C)
+  pub judgingNotTen : (C : Contract) (numbers buffer : List ℕ) → NotTen (judging C numbers buffer .answer)
+  pub checkingNotTen : (C : Contract) (L : ℕ) (rowBuffer wordBuffer : List ℕ) → NotTen (checking C L rowBuffer wordBuffer .answer)
+  pub runningNotTen : (C : Contract) (numbers buffer : List ℕ) → NotTen (running C numbers buffer .answer)
+  pub writingNotTen : (rows : List ℕ) (row : ℕ) (buffer : List ℕ) → NotTen (writingOut rows row buffer .answer)

@@ -12,8 +12,8 @@ use Rattle.model.specs.Tables.{Contract}
 use Rattle.model.specs.Rounds.{kindAutomaton, rounds}
 use Rattle.model.proofs.Rounds.Growth.{rounds-not-empty}
 use Rattle.kind_lists.specs.Listing.{Room}
-use Rattle.kind_lists.specs.Outcomes.{Conclusion}
-use Rattle.kind_lists.specs.declared.Ending.{Ending}
+use Rattle.kind_lists.specs.Outcomes.{ListEnds}
+use Rattle.kind_lists.specs.declared.ListEnd.{ListEnd}
 use Rattle.round_pairs.specs.Steps.{At}
 use Rattle.round_pairs.specs.declared.Round.{Round}
 use Rattle.round_pairs.proofs.Visits.{room-of}
@@ -38,8 +38,8 @@ one-higher {C} {limit} {height} {before} {stood} {slots} {rows} {words} b =
     subst (λ (h : ℕ). Between C limit h before stood slots rows words) (sym (add-one height)) b
 
 -- the end of the list under another name
-pub concluded : (C : Contract) (limit : ℕ) (rows words : List ℕ) {e f : Ending} → f ≡ e → Conclusion C limit rows words e → Conclusion C limit rows words f
-concluded C limit rows words same c = subst (λ (x : Ending). Conclusion C limit rows words x) (sym same) c
+pub concluded : (C : Contract) (limit : ℕ) (rows words : List ℕ) {e f : ListEnd} → f ≡ e → ListEnds C limit rows words e → ListEnds C limit rows words f
+concluded C limit rows words same c = subst (λ (x : ListEnd). ListEnds C limit rows words x) (sym same) c
 
 -- the loops stand before the same symbol under another name
 pub at-symbol : {C : Contract} {r : Round} {s i j n : ℕ} {slots rows words : List ℕ} (k : ℕ) → s ≡ k

@@ -3,9 +3,9 @@ use Prim.Native.Nat.{ℕ}
 use mathlib.Core.List.{List}
 use Rattle.prepared.specs.declared.Prepared.{Prepared}
 use Rattle.prepared.specs.Parts.{contractIn}
-use Rattle.kind_lists.specs.Outcomes.{Outcome, Conclusion}
+use Rattle.kind_lists.specs.Outcomes.{Outcome, ListEnds}
 use Rattle.kind_lists.specs.declared.Progress.{Progress}
-use Rattle.kind_lists.specs.declared.Ending.{Ending}
+use Rattle.kind_lists.specs.declared.ListEnd.{ListEnd}
 use Rattle.rounds.specs.Between.{Between}
 
 module _ (p : Prepared) (table : List ℕ) (limit : ℕ) where
@@ -14,5 +14,5 @@ module _ (p : Prepared) (table : List ℕ) (limit : ℕ) where
   Begun slots rows words = Outcome (contractIn p table) (λ n. Between (contractIn p table) limit 0 0 n slots rows words) limit 0 rows words
 
   -- the list ends
-  abbrev pub Lists : (rows words : List ℕ) → Ending → Type 0
-  Lists rows words = Conclusion (contractIn p table) limit rows words
+  abbrev pub Lists : (rows words : List ℕ) → ListEnd → Type 0
+  Lists rows words = ListEnds (contractIn p table) limit rows words

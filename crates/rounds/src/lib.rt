@@ -8,7 +8,7 @@ ghost use Rattle.kind_lists.specs.Listing.{Room};
 ghost use Rattle.round_pairs.specs.Stretches.{Starts, Comes, AllMarked};
 ghost use Rattle.rounds.specs.Between.{Between};
 ghost use Rattle.rounds.specs.Lists.{Begun, Lists};
-use kind_lists::Ending;
+use kind_lists::ListEnd;
 use kind_lists::Progress;
 use kind_lists::closing::ending_of;
 use kind_lists::listing::offer;
@@ -82,7 +82,7 @@ fn all_rounds(
     rows: &mut [u16],
     words: &mut [u64],
     room: &mut [u64; 256],
-) -> Ending
+) -> ListEnd
     requires { ⌜ Ready prepared (now table) × Covered (contractIn prepared (now table)) (now «left_masks») (now «right_masks») × Between (contractIn prepared (now table)) limit 0 0 count (now slots) (now rows) (now words) ⌝ }
     ensures { λ r. ⌜ Lists prepared (now (table .entry)) limit (now (rows .exit)) (now (words .exit)) r ⌝ }
 {
@@ -132,7 +132,7 @@ fn all_rounds(
         stood = total;
         height += 1;
     }
-    Ending::All(stood)
+    ending_of(Progress::Going(stood), height)
 }
 
 // Round 0: the kind of the empty forest is offered to the empty list.
@@ -173,7 +173,7 @@ pub fn list_kinds(
     limit: usize,
     rows: &mut [u16],
     words: &mut [u64],
-) -> Ending
+) -> ListEnd
     requires { ⌜ Ready prepared (now table) × Covered (contractIn prepared (now table)) (now «left_masks») (now «right_masks») × Room limit 0 (now rows) (now words) × (1 ≤ limit) ⌝ }
     ensures { λ r. ⌜ Lists prepared (now (table .entry)) limit (now (rows .exit)) (now (words .exit)) r ⌝ }
 {

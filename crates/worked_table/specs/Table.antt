@@ -130,7 +130,8 @@ table =
     (closed 5 (threeRows ++ (1 ∷ 1 ∷ 0 ∷ 1 ∷ 1 ∷ 1 ∷ [])) (threeKinds 16 34 34 ++ (oneRoot 1 ∷ 36 ∷ 0 ∷ 0 ∷ 0 ∷ 1 ∷ 36 ∷ 0 ∷ 0 ∷ 0 ∷ [])))
     ∷ line IdleSymbol (Questions.check 4) (tree 3)
     (closed 4 (threeRows ++ (1 ∷ 1 ∷ 0 ∷ [])) (threeKinds 1 2 2 ++ (oneRoot 1 ∷ 4 ∷ 0 ∷ 0 ∷ 0 ∷ [])))
-    -- stops of the contract of two calls, which has five kinds, of which rounds 0, 1 and 2 list one, one and three: in the middle of round 2 the height is 1
+    -- stops of the contract of two calls, of whose five kinds rounds 0, 1 and 2 list one, one and three: in the middle of round 2 the height
+    -- is 1
     ∷ line OneChild (Questions.check 1) (stopped 1 0) (closed 1 [] [])
     ∷ line OneChild (Questions.check 2) (stopped 2 1) (closed 2 [] [])
     ∷ line OneChild (Questions.check 3) (stopped 3 1) (closed 3 [] [])

@@ -13,7 +13,7 @@ use Rattle.model.specs.Meaning.{Lent, checkOf, OneOfThree, is-pass, is-tree, is
 use Rattle.model.proofs.Laws.Answers.{then-fine-left, then-fine-right, refuse-first-fine, given-refused}
 use Rattle.model.proofs.Meaning.Answers.{pass-not-refusal, tree-not-refusal, pass-not-stopped, tree-not-stopped, stopped-not-refusal}
 use Rattle.model.proofs.Meaning.Checks.{check-meaning, larger-limit-stop}
-use Rattle.checking.specs.Calls.{Call, returned, LetIn, NotRefused, CallMeans, StopsNoLower}
+use Rattle.checking.specs.Calls.{Call, returned, LetIn, NotRefused, CallMeans, CallLargerLimitStop}
 use Rattle.checking.proofs.Sizes.{room-clear, row-clear}
 
 -- a check that is stopped stands on nothing: both buffers are all 0
@@ -56,7 +56,7 @@ module _ {C : Contract} {L : ℕ} (call : Call C L) where
             };
       }
 
-  -- a call is let in, or turned away by a refusal and its buffers as they were
+  -- a call is let in, or turned away by a refusal with its buffers as they were
   data Treated : Type 0 where
     is-let-in : LetIn call → Treated
     is-turned-away : (number place : ℕ) → call .answer ≡ refusal number place → call .closingRows ≡ call .rows → call .closingWords ≡ call .words → Treated
@@ -77,34 +77,22 @@ module _ {C : Contract} {L : ℕ} (call : Call C L) where
           (call .gives .rowsClosed ∙ ap (λ (c : Checked). c .rows) away)
           (call .gives .wordsClosed ∙ ap (λ (c : Checked). c .words) away)
 
-  -- a pass, a tree and 10 are given by a call that is let in alone
-  pub pass-let-in : (n : ℕ) → call .answer ≡ pass n → LetIn call
-  pass-let-in n e = go treated
-    where
-      go : Treated → LetIn call
-      go (is-let-in good) = good
-      go (is-turned-away number place q r w) = absurd (pass-not-refusal e q)
-
-  pub tree-let-in : (j : ℕ) → call .answer ≡ tree j → LetIn call
-  tree-let-in j e = go treated
-    where
-      go : Treated → LetIn call
-      go (is-let-in good) = good
-      go (is-turned-away number place q r w) = absurd (tree-not-refusal e q)
-
-  stop-let-in : (limit h : ℕ) → call .answer ≡ stopped limit h → LetIn call
-  stop-let-in limit h e = go treated
-    where
-      go : Treated → LetIn call
-      go (is-let-in good) = good
-      go (is-turned-away number place q r w) = absurd (stopped-not-refusal e q)
-
   not-refused-let-in : NotRefused call → LetIn call
   not-refused-let-in never = go treated
     where
       go : Treated → LetIn call
       go (is-let-in good) = good
       go (is-turned-away number place q r w) = absurd (never number place q)
+
+  -- a pass, a tree and a stop are given by a call that is let in alone
+  pub pass-let-in : (n : ℕ) → call .answer ≡ pass n → LetIn call
+  pass-let-in n e = not-refused-let-in (λ number place q. pass-not-refusal e q)
+
+  pub tree-let-in : (j : ℕ) → call .answer ≡ tree j → LetIn call
+  tree-let-in j e = not-refused-let-in (λ number place q. tree-not-refusal e q)
+
+  stop-let-in : (limit h : ℕ) → call .answer ≡ stopped limit h → LetIn call
+  stop-let-in limit h e = not-refused-let-in (λ number place q. stopped-not-refusal e q)
 
   one-of : (good : LetIn call) → OneOfThree L (call .answer)
   one-of good = rw (call .gives .answered) (means good .oneOfThree)
@@ -118,7 +106,7 @@ module _ {C : Contract} {L : ℕ} (call : Call C L) where
       go (is-tree j q) = tree-not-refusal q e
       go (is-stop h q) = stopped-not-refusal q e
 
-  pub own-limit : (limit h : ℕ) → call .answer ≡ stopped limit h → limit ≡ L
+  own-limit : (limit h : ℕ) → call .answer ≡ stopped limit h → limit ≡ L
   own-limit limit h e = go (one-of (stop-let-in limit h e))
     where
       go : OneOfThree L (call .answer) → limit ≡ L
@@ -126,7 +114,7 @@ module _ {C : Contract} {L : ℕ} (call : Call C L) where
       go (is-tree j q) = absurd (tree-not-stopped q e)
       go (is-stop k q) = cc
 
-  pub stopped-at : (limit h : ℕ) → call .answer ≡ stopped limit h → call .answer ≡ stopped L h
+  stopped-at : (limit h : ℕ) → call .answer ≡ stopped limit h → call .answer ≡ stopped L h
   stopped-at limit h e = e ∙ ap (λ (l : ℕ). stopped l h) (own-limit limit h e)
 
   refused-keeps : (number place : ℕ) → call .answer ≡ refusal number place
@@ -166,8 +154,8 @@ module _ {C : Contract} {L : ℕ} (call : Call C L) where
       }
 
 -- "a larger limit, if it stops too, never gives a smaller h"
-pub stops-no-lower : {C : Contract} {L M : ℕ} (first : Call C L) (second : Call C M) → StopsNoLower first second
-stops-no-lower {C} first second limit larger h k e q less =
+pub larger-limit-stop-of-calls : {C : Contract} {L M : ℕ} (first : Call C L) (second : Call C M) → CallLargerLimitStop first second
+larger-limit-stop-of-calls {C} first second limit larger h k e q less =
     let good = stop-let-in first limit h e in
     let also = stop-let-in second larger k q in
     larger-limit-stop C (good .isAdmitted) (lent first good) (lent second also) (omega (arith, own-limit first limit h e, own-limit second larger k q)) h k

@@ -64,7 +64,7 @@ pub standing-answer : (C : Contract) (L : ℕ) (answer : Answer) (rows : List (L
 unfolding standing
 standing-answer C L answer rows e = ap (λ (c : Checked). c .answer) e
 
--- no answer is two of the three
+-- no answer is two of a pass, a tree, a stop and a refusal
 pub pass-not-tree : {a : Answer} {n j : ℕ} → a ≡ pass n → a ≡ tree j → ⊥
 pass-not-tree e q = let z : _≡_ {A = ℕ} 0 1 = cc in omega arith
 

@@ -4,18 +4,19 @@ use mathlib.Core.List.{List, [], _∷_}
 use Prim.Native.Nat.{ℕ}
 use native.Mathlib.Omega.{arith}
 use Rattle.model.specs.Tables.{Contract}
-use Rattle.model.specs.Answers.{Verdict, fine, refused, Answer, judged, tree, pass, written, refusal, stopped, given}
+use Rattle.model.specs.Answers.{Verdict, fine, refused, Answer, judged, tree, pass, written, refusal, given}
 use Rattle.model.specs.Admission.{admission, admit}
 use Rattle.model.specs.Judging.{Judged, judgingVerdict, judging}
 use Rattle.model.specs.Checking.{Checked, standing, check, checkingVerdict, checking}
 use Rattle.model.specs.Running.{Ran, runningVerdict, running}
 use Rattle.model.specs.WritingOut.{Written, writingVerdict, writingOut}
 use Rattle.model.specs.Meaning.{RunRefusal, no-rule, no-row, too-many-calls}
-use Rattle.model.specs.Refusals.{Reason, FirstReason, RefusesFor, Refuses, NotOfRun, OperationRefusals}
-use Rattle.model.proofs.Laws.Answers.{refusal-admits-nothing, given-fine, given-refused}
+use Rattle.model.specs.Refusals.{Reason, FirstReason, RefusesFor, Refuses, NotOfRun, NotTen, OperationRefusals}
+use Rattle.model.proofs.Laws.Answers.{Numbers, refusal-admits-nothing, given-fine, given-refused}
 use Rattle.model.proofs.Rounds.Stopping.{Ending, shows, passes, stops, check-ends}
+use Rattle.model.proofs.Meaning.Answers.{stopped-not-refusal}
 use Rattle.model.proofs.Meaning.Runs.{running-refusal}
-use Rattle.model.proofs.Meaning.Verdicts.{admission-refusals, judging-refusals, checking-refusals, running-refusals, writing-refusals, judging-numbers, checking-numbers, running-numbers}
+use Rattle.model.proofs.Meaning.Verdicts.{admission-refusals, judging-refusals, checking-refusals, running-refusals, writing-refusals, running-numbers, admission-other, judging-other, checking-other, running-other, writing-other}
 
 -- an operation r that gives its verdict's refusal, with the buffers as they were lent, or else a, which is no refusal of these numbers
 module _ {R : Type 0} (r : R) (v : Verdict) (onRefusal : ℕ → ℕ → R) (a : R) (gives : r ≡ given v onRefusal a) (answer : R → Answer)
@@ -35,9 +36,13 @@ module _ {R : Type 0} (r : R) (v : Verdict) (onRefusal : ℕ → ℕ → R) (a :
           let eq : q ≡ place = cc in
           f ∙ ap₂ refused em eq
 
-  refused-by : ((number place : ℕ) → answer a ≡ refusal number place → ⊥) → (number place : ℕ) → answer r ≡ refusal number place → v ≡ refused number place
-  refused-by never number place e =
-      told number place (λ f g. never number place (sym (ap answer (gives ∙ given-fine onRefusal a v f)) ∙ g)) e
+  -- where nothing is refused and a is no refusal, r is none
+  never-refused : ((number place : ℕ) → answer a ≡ refusal number place → ⊥) → (number place : ℕ) → v ≡ fine → answer r ≡ refusal number place → ⊥
+  never-refused never number place f e = never number place (sym (ap answer (gives ∙ given-fine onRefusal a v f)) ∙ e)
+
+  not-ten : Numbers (λ number. number ≡ 10 → ⊥) v → ((number place : ℕ) → v ≡ fine → answer r ≡ refusal number place → number ≡ 10 → ⊥)
+      → NotTen (answer r)
+  not-ten other never place e = other 10 place (told 10 place (λ f g. never 10 place f g refl) e) refl
 
   module _ (reasons : List Reason) (for : RefusesFor reasons v) where
     -- where Early says which numbers are meant
@@ -57,7 +62,7 @@ module _ {R : Type 0} (r : R) (v : Verdict) (onRefusal : ℕ → ℕ → R) (a :
     all-refuse : ((number place : ℕ) → answer a ≡ refusal number place → ⊥)
         → Refuses reasons (λ number place. answer r ≡ refusal number place) lent (buffers r)
     all-refuse never =
-        let early = early-refuses (λ number. Unit {0}) (λ number place f. tt) (λ number place f e one. never number place (sym (ap answer (gives ∙ given-fine onRefusal a v f)) ∙ e)) in
+        let early = early-refuses (λ number. Unit {0}) (λ number place f. tt) (λ number place f e one. never-refused never number place f e) in
         record {
           exactly = λ number place. (λ e. early .exactly number place .0 (e, tt), λ f. early .exactly number place .1 f .0);
           nothingWritten = λ number place e. early .nothingWritten number place (e, tt);
@@ -69,9 +74,6 @@ tree-no-refusal e = let z : _≡_ {A = ℕ} 0 1 = cc in omega arith
 
 pass-no-refusal : {n number place : ℕ} → pass n ≡ refusal number place → ⊥
 pass-no-refusal e = let z : _≡_ {A = ℕ} 0 1 = cc in omega arith
-
-stop-no-refusal : {limit height number place : ℕ} → stopped limit height ≡ refusal number place → ⊥
-stop-no-refusal e = let z : _≡_ {A = ℕ} 0 1 = cc in omega arith
 
 judged-no-refusal : {result taken number place : ℕ} → judged result taken ≡ refusal number place → ⊥
 judged-no-refusal e = let z : _≡_ {A = ℕ} 0 1 = cc in omega arith
@@ -87,7 +89,7 @@ check-no-refusal C L number place e = go (check-ends C L)
     go : Ending C L (check C L) → ⊥
     go (shows j l i b n f) = tree-no-refusal (sym (ap (λ (c : Checked). c .answer) f) ∙ e)
     go (passes d l n f) = pass-no-refusal (sym (ap (λ (c : Checked). c .answer) f) ∙ e)
-    go (stops l n f) = stop-no-refusal (sym (ap (λ (c : Checked). c .answer) f) ∙ e)
+    go (stops l n f) = stopped-not-refusal (ap (λ (c : Checked). c .answer) f) e
 
 -- a run is refused by 13 to 15
 run-refuses-late : {procedures free number place : ℕ} → RunRefusal procedures free number place → NotOfRun number → ⊥
@@ -118,14 +120,23 @@ operation-refusals =
           all-refuse (writingOut rows row buffer) (writingVerdict rows row buffer) _ _ refl (λ (w : Written). w .answer)
           (λ (w : Written). w .numbers ∷ []) (buffer ∷ []) (λ n p. (refl, refl)) _ (writing-refusals rows row buffer)
           (λ n p e. written-no-refusal e);
-      judgingNotTen = λ C numbers buffer place e.
-          judging-numbers C numbers buffer 10 place
-          (refused-by (judging C numbers buffer) (judgingVerdict C numbers buffer) _ _ refl (λ (j : Judged). j .answer) (λ (j : Judged). j .words ∷ [])
-          (buffer ∷ []) (λ n p. (refl, refl)) (λ n p f. judged-no-refusal f) 10 place e)
-          refl;
-      checkingNotTen = λ C L rows words place e.
-          checking-numbers C L rows words 10 place
-          (refused-by (checking C L rows words) (checkingVerdict C L rows words) _ _ refl (λ (c : Checked). c .answer)
-          (λ (c : Checked). c .rows ∷ c .words ∷ []) (rows ∷ words ∷ []) (λ n p. (refl, refl)) (λ n p f. check-no-refusal C L n p f) 10 place e)
-          refl;
+      admissionNotTen = λ C.
+          not-ten (admit C) (admission C) _ _ refl (λ a. a) (λ a. []) [] (λ n p. (refl, refl)) (admission-other C)
+          (λ n p f e ten. refusal-admits-nothing n p (sym e ∙ given-fine _ _ _ f));
+      judgingNotTen = λ C numbers buffer.
+          not-ten (judging C numbers buffer) (judgingVerdict C numbers buffer) _ _ refl (λ (j : Judged). j .answer) (λ (j : Judged). j .words ∷ [])
+          (buffer ∷ []) (λ n p. (refl, refl)) (judging-other C numbers buffer)
+          (λ n p f e ten. judged-no-refusal (sym (ap (λ (j : Judged). j .answer) (given-fine _ _ _ f)) ∙ e));
+      checkingNotTen = λ C L rows words.
+          not-ten (checking C L rows words) (checkingVerdict C L rows words) _ _ refl (λ (c : Checked). c .answer)
+          (λ (c : Checked). c .rows ∷ c .words ∷ []) (rows ∷ words ∷ []) (λ n p. (refl, refl)) (checking-other C L rows words)
+          (λ n p f e ten. check-no-refusal C L n p (sym (ap (λ (c : Checked). c .answer) (given-fine _ _ _ f)) ∙ e));
+      runningNotTen = λ C numbers buffer.
+          not-ten (running C numbers buffer) (runningVerdict C numbers buffer) _ _ refl (λ (r : Ran). r .answer) (λ (r : Ran). r .rows ∷ [])
+          (buffer ∷ []) (λ n p. (refl, refl)) (running-other C numbers buffer)
+          (λ n p f e ten. run-refuses-late (running-refusal C numbers buffer n p f e .reason) (λ l m. omega arith));
+      writingNotTen = λ rows row buffer.
+          not-ten (writingOut rows row buffer) (writingVerdict rows row buffer) _ _ refl (λ (w : Written). w .answer)
+          (λ (w : Written). w .numbers ∷ []) (buffer ∷ []) (λ n p. (refl, refl)) (writing-other rows row buffer)
+          (λ n p f e ten. written-no-refusal (sym (ap (λ (w : Written). w .answer) (given-fine _ _ _ f)) ∙ e));
     }

@@ -12,14 +12,14 @@ use Rattle.model.specs.Answers.{stopped}
 use Rattle.model.specs.Kinds.{kindOf, breaks}
 use Rattle.model.specs.Checking.{stopHeight, check}
 use Rattle.model.specs.Claims.{Breaks}
-use Rattle.model.specs.Meaning.{TreeOf, Stops, Covers, LastHeld, StopMeans, StopTells}
+use Rattle.model.specs.Meaning.{TreeOf, Stops, AllAmongFirst, LastHeld, StopMeans, StopTells}
 use Rattle.model.proofs.Rounds.Heights.{held-covers, held-greatest, stop-height-at, last-held}
 use Rattle.model.proofs.Rounds.Stopping.{Ending, shows, passes, stops, check-ends}
 use Rattle.model.proofs.Meaning.Answers.{standing-answer, pass-not-stopped, tree-not-stopped, stop-exactly}
 
 module _ (C : Contract) (breaksExactly : (t : Tree) → TreeOf C t → T (breaks C (kindOf C t)) ↔ Breaks C t) (L : ℕ) where
   -- a tree whose kind is among the first L does not break the contract
-  none-low : (h : ℕ) → Stops C L → Covers C L h → (t : Tree) → TreeOf C t → height t ≤ h → Breaks C t → ⊥
+  none-low : (h : ℕ) → Stops C L → AllAmongFirst C L h → (t : Tree) → TreeOf C t → height t ≤ h → Breaks C t → ⊥
   none-low h keep covers t over low b =
       let a = covers t over low in
       false-test _ (keep .firstKeep (a .round) .keeps (a .row) (a .belowLimit) (a .inside)) (rw (← a .found) at (breaksExactly t over .1 b))

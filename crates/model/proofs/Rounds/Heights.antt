@@ -14,7 +14,7 @@ use Rattle.model.specs.Tables.{Contract}
 use Rattle.model.specs.Kinds.{kindOf}
 use Rattle.model.specs.Rounds.{TreeAutomaton, kindAutomaton, ListedKind, kindAt, listing, rounds}
 use Rattle.model.specs.Checking.{firstKinds, amongFirst, stopHeight}
-use Rattle.model.specs.Meaning.{AmongFirst, Covers, LastHeld}
+use Rattle.model.specs.Meaning.{AmongFirst, AllAmongFirst, LastHeld}
 use Rattle.model.proofs.Laws.Trees.{every-tree}
 use Rattle.model.proofs.Rounds.Growth.{Begins, begins-length, begins-state, rounds-begin, rounds-beginning, agree-state, take-begins}
 use Rattle.model.proofs.Rounds.Covering.{treeState, kind-state, kinds-decided, HasState, lists-has, has-lists, tree-listed}
@@ -65,7 +65,7 @@ module _ (C : Contract) (L : ℕ) where
       go (inr l) = at (omega (arith, a .inside))
 
   -- "every tree of height h or less has its kind among the first L", as the test tells it
-  covers-exactly : (h : ℕ) → T (everyTree (C .transformation .symbols) h (amongFirst C L)) ↔ Covers C L h
+  covers-exactly : (h : ℕ) → T (everyTree (C .transformation .symbols) h (amongFirst C L)) ↔ AllAmongFirst C L h
   covers-exactly h = (
     λ e t over low. told-among t (every-tree (C .transformation .symbols) h (amongFirst C L) .0 e t over low),
     λ c. every-tree (C .transformation .symbols) h (amongFirst C L) .1 (λ t over low. among-told t (c t over low)),
@@ -74,7 +74,7 @@ module _ (C : Contract) (L : ℕ) where
   -- round h, of which the limit holds the list, and not that of the next
   module _ (h : ℕ) (last : LastHeld C L h) where
     -- its list has the kind of every tree of height h or less
-    pub held-covers : Covers C L h
+    pub held-covers : AllAmongFirst C L h
     held-covers t over low =
         let there : HasState A (rounds A h) (treeState A t) = tree-listed A (kinds-decided C) t over h low in
         record {
@@ -95,7 +95,7 @@ module _ (C : Contract) (L : ℕ) where
         (begins-state also (a .row) (a .inside) ∙ a .found ∙ sym (begins-state begins L (last .leftOut)))
 
     -- and it is the kind of a tree of height h + 1 or less
-    pub held-greatest : (k : ℕ) → Covers C L k → k ≤ h
+    pub held-greatest : (k : ℕ) → AllAmongFirst C L k → k ≤ h
     held-greatest k all = go (decLt h k)
       where
         go : Dec (h < k) → k ≤ h

@@ -77,14 +77,19 @@ loop-again c =
     let test = c .before .before .before .before .before .before .before .before .before .before .before .before .before .before .before .before .before .before .before .before .loop-test .taken in
     (one-higher (round-ends _ (goes _ _ _ _ _ _ (c .before .before .before .before .before .before .before .one-round .result) _ (c .before .step .given .1) (c .before .before .before .before .before .before .before .one-round .ensures))), lefts-marked _ known _ _ (pre .1) (inv .0) (inv .1) (c .before .before .before .before .before .before .before .before .before .before .before .before .before .before .before .before .before .mark-rows .ensures), rights-marked _ known _ _ (pre .1) (inv .0) (inv .2) (c .before .before .before .before .before .before .before .before .before .before .before .before .before .before .mark-rows2 .ensures), omega (arith, inv .3))
 
+ending-of-requires-2 : tie.Need-ending-of-requires-2 Inv-loop μ-loop
+ending-of-requires-2 c κs = tt
+
 same-length-3 : tie.Need-same-length-3 Inv-loop μ-loop
-same-length-3 c = between-room (c .before .loop .inv .0) .rowRoom ∙ sym (between-room (c .before .before .before .before .before .pre .2) .rowRoom)
+same-length-3 c = between-room (c .before .before .loop .inv .0) .rowRoom ∙ sym (between-room (c .before .before .before .before .before .before .pre .2) .rowRoom)
 
 same-length-4 : tie.Need-same-length-4 Inv-loop μ-loop
-same-length-4 c = between-room (c .before .loop .inv .0) .wordRoom ∙ sym (between-room (c .before .before .before .before .before .pre .2) .wordRoom)
+same-length-4 c = between-room (c .before .before .loop .inv .0) .wordRoom ∙ sym (between-room (c .before .before .before .before .before .before .pre .2) .wordRoom)
 
 returns-2 : tie.Need-returns-2 Inv-loop μ-loop
-returns-2 c = let test = c .loop-test .left in passed _ (c .before .loop .inv .0) (omega arith)
+returns-2 c =
+    let test = c .before .loop-test .left in
+    concluded _ _ _ _ (c .ending-of2 .ensures) (passed _ (c .before .before .loop .inv .0) (omega arith))
 
 pub all-rounds-spec : {M : Type 1} → statement M
 all-rounds-spec =
@@ -104,6 +109,7 @@ all-rounds-spec =
     add-height
     loop-less
     loop-again
+    ending-of-requires-2
     same-length-3
     same-length-4
     returns-2)

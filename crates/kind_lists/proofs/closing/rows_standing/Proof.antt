@@ -1,7 +1,7 @@
 -- By the three ends.
 use mathlib.Core.Path.{ap, sym}
 use Rattle.kind_lists.specs.Closing.{rowsStanding}
-use Rattle.kind_lists.specs.declared.Ending.{Ending}
+use Rattle.kind_lists.specs.declared.ListEnd.{ListEnd}
 use Rattle.kind_lists.proofs.Offers.{standing-small}
 use native.Mathlib.Omega.{arith}
 use borrow.Author.Needs.{needs}
@@ -24,7 +24,7 @@ returns : tie.Need-returns
 returns c = search needs
 
 returns-2 : tie.Need-returns-2
-returns-2 c = ap (λ (e : Ending). rowsStanding e) (sym (c .before .ended2 .given .1))
+returns-2 c = ap (λ (e : ListEnd). rowsStanding e) (sym (c .before .ended2 .given .1))
 
 returns-3 : tie.Need-returns-3
 returns-3 c = search needs
