@@ -203,8 +203,8 @@ typedef struct {
  * first type and the one with the second both pass, provided that none of the three checks is refused. It may have more
  * facts and more kinds than the other two, so that it may be refused by 8 or 10 where they are not.
  *
- * A merged type may be merged again. The order and the grouping do not change which trees are allowed in the end, and
- * neither does it to take a type more than once. */
+ * A merged type may be merged again, as long as there are at most 4 states in all. Neither order nor grouping, nor
+ * merging a type in more than once, changes which trees are allowed in the end. */
 goosedawn_merging goosedawn_merge(size_t symbols, size_t states, const uint16_t *table, size_t table_length,
                                   const uint16_t *marks, size_t marks_length, size_t second_symbols,
                                   size_t second_states, const uint16_t *second_table, size_t second_table_length,

@@ -17,9 +17,9 @@ int main(void) {
                                                 output_marks, 2, nodes, 20, rules, 6, limit, rows, 3 * limit, words,
                                                 5 * limit);
         if (reply.answer == GOOSEDAWN_PASS) return printf("limit %zu: no document breaks the contract\n", limit), 0;
-        if (reply.answer == GOOSEDAWN_TREE) return printf("limit %zu: row %zu breaks it\n", limit, reply.first), 0;
+        if (reply.answer == GOOSEDAWN_TREE) return printf("limit %zu: the tree of row %zu breaks the contract\n", limit, reply.first), 0;
         if (reply.first != 10) return printf("refused %zu %zu\n", reply.first, reply.second), 1;
-        printf("limit %zu: none of height %zu or less does\n", reply.second, reply.third);
+        printf("limit %zu: no document of height %zu or less breaks the contract\n", reply.second, reply.third);
     }
     return 0;
 }

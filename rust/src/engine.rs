@@ -145,8 +145,8 @@ pub trait Engine {
     /// So where a contract is checked with each of the two types and with the merged one, and no check is refused, the
     /// merged one passes exactly if both others do.
     ///
-    /// A merged type may be merged again. The order and the grouping do not change which trees are allowed in the end, and
-    /// neither does it to take a type more than once.
+    /// A merged type may be merged again, as long as there are at most 4 states in all. Neither order nor grouping, nor
+    /// merging a type in more than once, changes which trees are allowed in the end.
     ///
     /// ```
     /// use goosedawn::contract::OutputType;

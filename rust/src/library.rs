@@ -233,8 +233,8 @@ impl Library {
     }
 
     /// An older build, which `tests/compare` renames and links beside the present one. How many numbers a document took
-    /// and the height of a stop are not to be read from its answers. `shorter`, `shorter_refusal` and `merge` are the present build's: an older one
-    /// may not have them.
+    /// and the height of a stop are not to be read from its answers. `shorter`, `shorter_refusal` and `merge` are the
+    /// present build's: an older one may not have them.
     #[cfg(feature = "compare")]
     pub fn old() -> Library {
         Library { functions: OLD, run_stack: RUN_STACK }

@@ -1,6 +1,6 @@
 //! Two output types merged: answers worked by hand and every refusal, by the model and by the proved library; and what merging
-//! is for, by the model, with which the library is compared elsewhere. The merged type allows a tree exactly if both do, and a
-//! contract with it passes exactly if it passes with each.
+//! is for, by the model, with which the library is compared elsewhere. The merged type allows a tree exactly if both do, a
+//! contract with it passes exactly if it passes with each, and order, grouping and self-merging change nothing.
 
 use goosedawn::contract::{Contract, OutputTables, OutputType};
 use goosedawn::engine::{Answer, Engine, Refusal};
@@ -220,12 +220,16 @@ fn buffers_that_are_too_short() {
     refuses_in([2, 0], [ANY, ANY], (56, 1));
 }
 
-/// The type that two good ones with at most four pairs of states merge to.
-fn merged(first: OutputType<'_>, second: OutputType<'_>) -> OutputTables {
+/// The type that two good ones with at most four pairs of states merge to, by an engine.
+fn merged_with(engine: &impl Engine, first: OutputType<'_>, second: OutputType<'_>) -> OutputTables {
     let states = first.states * second.states;
     let (mut table, mut marks) = (vec![BEFORE; 1 + (first.symbols - 1) * states * states], vec![BEFORE; states]);
-    assert_eq!(Model.merge(first, second, &mut table, &mut marks), Ok(states));
+    assert_eq!(engine.merge(first, second, &mut table, &mut marks), Ok(states));
     OutputTables { symbols: first.symbols, states, table, marks }
+}
+
+fn merged(first: OutputType<'_>, second: OutputType<'_>) -> OutputTables {
+    merged_with(&Model, first, second)
 }
 
 /// The state of a document, from the leaves up: the table is taken apart into a square for each symbol from 1 on.
@@ -284,31 +288,32 @@ fn a_tree_is_allowed_exactly_if_both_allow_it() {
 
 /// A merged type is merged again: whatever the order and the grouping, and however often a type is taken, a tree is allowed
 /// exactly if all types allow it.
-#[test]
-fn order_grouping_and_self_merging() {
+fn merges_in_any_way(engine: &impl Engine) {
     let mut random = Random::new(2);
     let mut met = [0; 4];
     for _ in 0..2000 {
         let symbols = random.within(1, 16);
         let sizes = [[2, 2, 1], [2, 1, 2], [1, 2, 2], [1, 1, 4], [4, 1, 1], [1, 3, 1], [2, 1, 1]][random.below(7)];
         let types = sizes.map(|states| output_tables(&mut random, symbols, states));
-        let [a, b, c] = [0, 1, 2].map(|which| types[which].output_type());
-        let together = |first: &OutputTables, second: &OutputTables| merged(first.output_type(), second.output_type());
+        let both = |first: &OutputTables, second: &OutputTables| {
+            merged_with(engine, first.output_type(), second.output_type())
+        };
+        let [a, b, c] = &types;
         let mut ways = vec![
-            together(&merged(a, b), &types[2]),
-            together(&types[0], &merged(b, c)),
-            together(&merged(b, a), &types[2]),
-            together(&types[2], &merged(b, a)),
-            together(&merged(c, a), &types[1]),
+            both(&both(a, b), c),
+            both(a, &both(b, c)),
+            both(&both(b, a), c),
+            both(c, &both(b, a)),
+            both(&both(c, a), b),
         ];
-        for (once, other) in [(a, together(&types[1], &types[2])), (b, merged(a, c)), (c, merged(a, b))] {
-            if once.states * once.states * other.states <= 4 {
-                ways.push(together(&merged(once, once), &other));
+        for (once, others) in [(a, both(b, c)), (b, both(a, c)), (c, both(a, b))] {
+            if once.states * once.states * others.states <= 4 {
+                ways.push(both(&both(once, once), &others));
             }
         }
         for size in 0..20 {
             let tree = document(&mut random, symbols, size);
-            let allowing = [a, b, c].into_iter().filter(|of| allows(*of, &tree)).count();
+            let allowing = types.iter().filter(|of| allows(of.output_type(), &tree)).count();
             for way in &ways {
                 assert_eq!(allows(way.output_type(), &tree), allowing == 3, "{tree:?} {types:?}");
             }
@@ -317,6 +322,12 @@ fn order_grouping_and_self_merging() {
     }
     println!("allowed by none, one, two, all of three types: {met:?}");
     assert!(met.iter().all(|&met| met > 1000), "{met:?}");
+}
+
+#[test]
+fn order_grouping_and_self_merging() {
+    merges_in_any_way(&Model);
+    merges_in_any_way(&Library::default());
 }
 
 /// All types over the symbols 0 and 1 with so many states, one or two.

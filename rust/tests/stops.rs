@@ -49,7 +49,7 @@ fn listed(engine: &impl Engine, contract: &Contract) -> Option<Listed> {
     })
 }
 
-/// Whether each tree of a height or less has its kind among some; none of them may be judged 2.
+/// Whether every tree up to a height has its kind among the first; one that has must not be judged 2.
 fn covers(engine: &impl Engine, contract: &Contract, first: &HashSet<[u64; 5]>, height: usize) -> bool {
     all_trees(contract.symbols, height).iter().all(|tree| {
         let mut kind = [7; 5];

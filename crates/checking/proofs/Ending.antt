@@ -8,7 +8,7 @@ use Rattle.model.specs.Tables.{Contract}
 use Rattle.model.specs.Answers.{Answer}
 use Rattle.model.specs.Checking.{check}
 use Rattle.kind_lists.specs.Listing.{clearedFrom}
-use Rattle.kind_lists.specs.Outcomes.{ListEnds}
+use Rattle.kind_lists.specs.Outcomes.{EndOfList}
 use Rattle.kind_lists.specs.Closing.{rowsStanding, answerAfter, Gives, closes}
 use Rattle.kind_lists.specs.declared.ListEnd.{ListEnd}
 use Rattle.kind_lists.specs.declared.ListEnd.the-variants as list-end
@@ -19,7 +19,7 @@ pub record Stands (limit standing : ℕ) (rows words : List ℕ) : Type 0 where
   pub rowRoom : length rows ≡ 3 * limit
   pub wordRoom : length words ≡ 5 * limit
 
-pub stands : (C : Contract) (limit : ℕ) (rows words : List ℕ) (e : ListEnd) → ListEnds C limit rows words e → Stands limit (rowsStanding e) rows words
+pub stands : (C : Contract) (limit : ℕ) (rows words : List ℕ) (e : ListEnd) → EndOfList C limit rows words e → Stands limit (rowsStanding e) rows words
 stands C limit rows words (list-end.All n) o =
     let h = o .holds in let k = o .counted in
     record { few = h .few; fits = omega (arith, h .fits); rowRoom = h .rowRoom; wordRoom = h .wordRoom }
@@ -31,7 +31,7 @@ stands C limit rows words (list-end.Full height) o =
     record { few = h .few; fits = omega arith; rowRoom = h .rowRoom; wordRoom = h .wordRoom }
 
 -- .. and cleared after them the buffers are those of the check
-pub ended-gives : (C : Contract) (limit : ℕ) (rows words : List ℕ) (e : ListEnd) → ListEnds C limit rows words e
+pub ended-gives : (C : Contract) (limit : ℕ) (rows words : List ℕ) (e : ListEnd) → EndOfList C limit rows words e
     → (standing : ℕ) → standing ≡ rowsStanding e
     → (rows′ words′ : List ℕ) → rows′ ≡ clearedFrom rows (3 * standing) → words′ ≡ clearedFrom words (5 * standing)
     → (answer : Answer) → answer ≡ answerAfter limit e

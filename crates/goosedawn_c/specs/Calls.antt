@@ -11,6 +11,7 @@ use Rattle.model.specs.Tables.{Contract}
 use Rattle.model.specs.Answers.{Answer, refusal, stopped, admitted, judged, pass, tree, ran, written}
 use Rattle.model.specs.Checking.{checking}
 use Rattle.model.specs.Judging.{judging}
+use Rattle.model.specs.Refusals.{NotTen}
 use Rattle.model.proofs.Meaning.Refusals.{operation-refusals}
 use Rattle.checking.specs.Calls.{Call}
 use Rattle.judging.specs.Calls as judging-calls
@@ -28,7 +29,7 @@ answerOf r =
     (choose (eqb (r .answer) 5) (ran (r .first) (r .second) (r .third)) (written (r .first)))))))
 
 -- no two answers have one reply, as 10 is the number of a stop alone
-pub answer-of-reply : (answer : Answer) → ((place : ℕ) → answer ≡ refusal 10 place → ⊥) → answerOf (replyOf answer) ≡ answer
+pub answer-of-reply : (answer : Answer) → NotTen answer → answerOf (replyOf answer) ≡ answer
 answer-of-reply admitted other = refl
 answer-of-reply (judged result taken) other = refl
 answer-of-reply (tree row) other = refl

@@ -13,7 +13,7 @@ use Rattle.model.specs.Checking.{Checked, rowNumbers, kindNumbers, standing, ch
 use Rattle.model.specs.Meaning.{NoneBreaks}
 use Rattle.model.proofs.Rounds.Stopping.{check-tree, check-stop, check-pass}
 use Rattle.kind_lists.specs.Held.{Holds}
-use Rattle.kind_lists.specs.Outcomes.{ListEnds}
+use Rattle.kind_lists.specs.Outcomes.{EndOfList}
 use Rattle.kind_lists.specs.declared.ListEnd.{ListEnd}
 use Rattle.kind_lists.specs.declared.ListEnd.the-variants as list-end
 
@@ -52,7 +52,7 @@ module _ (C : Contract) (limit : ℕ) (rows words : List ℕ) where
   unfolding standing rowNumbers kindNumbers
   nothing answer rowRoom wordRoom = record { answered = refl; rowsClosed = rw rowRoom; wordsClosed = rw wordRoom }
 
-  pub closes : (e : ListEnd) → ListEnds C limit rows words e
+  pub closes : (e : ListEnd) → EndOfList C limit rows words e
       → Gives (check C limit) (answerAfter limit e) (zeroFilled (length rows) (take (3 * rowsStanding e) rows)) (zeroFilled (length words) (take (5 * rowsStanding e) words))
   closes (list-end.All n) o =
       let e = check-pass C limit (o .height) (o .ended) (o .holds .fits) (subst (λ (k : ℕ). NoneBreaks C k (rounds (kindAutomaton C) (o .height))) (o .counted) (o .none)) in

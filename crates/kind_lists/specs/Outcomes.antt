@@ -18,7 +18,7 @@ use Rattle.kind_lists.specs.declared.Progress.the-variants as progress
 use Rattle.kind_lists.specs.declared.ListEnd.{ListEnd}
 use Rattle.kind_lists.specs.declared.ListEnd.the-variants as list-end
 
--- how the list ends where the last offers end so and no more are due, all trees up to a height having their kinds in it
+-- how the list ends where offers end so and none is made after them; all trees up to the height have their kinds in it
 abbrev pub endingOf : ℕ → Progress → ListEnd
 endingOf height (progress.Going n) = list-end.All n
 endingOf height (progress.Breaks j) = list-end.Breaks j
@@ -75,7 +75,7 @@ module _ (C : Contract) where
     pub overfull : Overfull limit (suc h) rows words
 
   -- the end of the list
-  abbrev pub ListEnds : (limit : ℕ) (rows words : List ℕ) → ListEnd → Type 0
-  ListEnds limit rows words (list-end.All n) = Passed limit n rows words
-  ListEnds limit rows words (list-end.Breaks j) = Broken limit j rows words
-  ListEnds limit rows words (list-end.Full h) = Stopped limit h rows words
+  abbrev pub EndOfList : (limit : ℕ) (rows words : List ℕ) → ListEnd → Type 0
+  EndOfList limit rows words (list-end.All n) = Passed limit n rows words
+  EndOfList limit rows words (list-end.Breaks j) = Broken limit j rows words
+  EndOfList limit rows words (list-end.Full h) = Stopped limit h rows words

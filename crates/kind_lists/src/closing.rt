@@ -10,7 +10,7 @@ use crate::ListEnd;
 use crate::Progress;
 use answers::CheckingAnswer;
 
-// How the list ends where the last offers end so and no more are due, all trees up to this height having their kinds in it.
+// How the list ends where offers end so and none is made after them; all trees up to the height have their kinds in it.
 pub fn ending_of(step: Progress, height: usize) -> ListEnd
     ensures { λ r. ⌜ r ≡ endingOf height step ⌝ }
 {

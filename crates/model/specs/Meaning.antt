@@ -166,7 +166,7 @@ AllAmongFirst C L h = (t : Tree) → TreeOf C t → height t ≤ h → AmongFirs
 -- first L" (change request W-214)
 pub record StopMeans (C : Contract) (L h : ℕ) : Type 0 where
   pub stops : Stops C L
-  pub covers : AllAmongFirst C L h
+  pub allAmong : AllAmongFirst C L h
   pub isGreatest : (k : ℕ) → AllAmongFirst C L k → k ≤ h
 
 -- the limit holds the list of round h, and not that of the next, which lists the first kind left out
@@ -174,10 +174,11 @@ pub record LastHeld (C : Contract) (L h : ℕ) : Type 0 where
   pub held : length (kindRounds C h) ≤ L
   pub leftOut : L < length (kindRounds C (suc h))
 
--- what follows of it
+-- what follows from refusal 10 under limit L with height h
 pub record StopTells (C : Contract) (L h : ℕ) : Type 0 where
   -- "no document of height h or less breaks the contract"
   pub noneLow : (t : Tree) → TreeOf C t → height t ≤ h → Breaks C t → ⊥
+  -- h is the round before the one that lists the first kind left out
   pub lastHeld : LastHeld C L h
 
 -- "buffers of its limit's length", "No limit exceeds 512."

@@ -187,30 +187,30 @@ pub record MergedBy (S : ℕ) (Y Z M : OutputType) : Type 0 where
   pub made : M ≡ typeIn S states (merging S Y secondSymbols Z tableBuffer marksBuffer .table) (merging S Y secondSymbols Z tableBuffer marksBuffer .marks)
 
 -- how a type is put together by merging: a part, or two of these merged; what it is then, and which are its parts
-pub data MergeTree : Type 0 where
-  part : OutputType → MergeTree
-  both : MergeTree → MergeTree → MergeTree
+pub data MergeSteps : Type 0 where
+  part : OutputType → MergeSteps
+  both : MergeSteps → MergeSteps → MergeSteps
 
-abbrev pub PutTogether : ℕ → MergeTree → OutputType → Type 0
+abbrev pub PutTogether : ℕ → MergeSteps → OutputType → Type 0
 PutTogether S (part Y) M = M ≡ Y
 PutTogether S (both p q) M = (Y : OutputType) × (Z : OutputType) × PutTogether S p Y × PutTogether S q Z × MergedBy S Y Z M
 
-abbrev pub PartOf : OutputType → MergeTree → Type 0
+abbrev pub PartOf : OutputType → MergeSteps → Type 0
 PartOf Y (part Z) = Y ≡ Z
 PartOf Y (both p q) = PartOf Y p ⊎ PartOf Y q
 
 -- two types so put together, where merging refuses nothing, allow the same trees
-abbrev pub AllowSame : ℕ → (p q : MergeTree) → Type 0
+abbrev pub AllowSame : ℕ → (p q : MergeSteps) → Type 0
 AllowSame S p q = (M N : OutputType) → PutTogether S p M → PutTogether S q N → (u : Tree) → TypeAllows M u ↔ TypeAllows N u
 
 -- "order, grouping and self-merging do not change which trees merged types allow, sizes permitting" (change request W-214)
 pub record MergeLaw (S : ℕ) : Type 0 where
   -- a type allows exactly the trees that all its parts allow, however it was put together
-  pub allowsAll : (p : MergeTree) (M : OutputType) → PutTogether S p M → (u : Tree) → TypeAllows M u ↔ ((Y : OutputType) → PartOf Y p → TypeAllows Y u)
+  pub allowsAll : (p : MergeSteps) (M : OutputType) → PutTogether S p M → (u : Tree) → TypeAllows M u ↔ ((Y : OutputType) → PartOf Y p → TypeAllows Y u)
   -- so "order, grouping and self-merging" change nothing
-  pub order : (p q : MergeTree) → AllowSame S (both p q) (both q p)
-  pub grouping : (p q r : MergeTree) → AllowSame S (both (both p q) r) (both p (both q r))
-  pub self : (p : MergeTree) → AllowSame S (both p p) p
+  pub order : (p q : MergeSteps) → AllowSame S (both p q) (both q p)
+  pub grouping : (p q r : MergeSteps) → AllowSame S (both (both p q) r) (both p (both q r))
+  pub self : (p : MergeSteps) → AllowSame S (both p p) p
 
 -- a contract with another output type
 abbrev pub withOutput : Contract → OutputType → Contract

@@ -220,6 +220,7 @@ pub data AdmissionNumber (number : ℕ) : Type 0 where
 abbrev pub NotOfRun : ℕ → Type 0
 NotOfRun number = 13 ≤ number → number ≤ 15 → ⊥
 
+-- the answer is not refusal 10 with a place alone
 abbrev pub NotTen : Answer → Type 0
 NotTen answer = (place : ℕ) → answer ≡ refusal 10 place → ⊥
 

@@ -12,7 +12,7 @@ use Rattle.model.specs.Tables.{Contract}
 use Rattle.model.specs.Rounds.{kindAutomaton, rounds}
 use Rattle.model.proofs.Rounds.Growth.{rounds-not-empty}
 use Rattle.kind_lists.specs.Listing.{Room}
-use Rattle.kind_lists.specs.Outcomes.{ListEnds}
+use Rattle.kind_lists.specs.Outcomes.{EndOfList}
 use Rattle.kind_lists.specs.declared.ListEnd.{ListEnd}
 use Rattle.round_pairs.specs.Steps.{At}
 use Rattle.round_pairs.specs.declared.Round.{Round}
@@ -38,8 +38,8 @@ one-higher {C} {limit} {height} {before} {stood} {slots} {rows} {words} b =
     subst (λ (h : ℕ). Between C limit h before stood slots rows words) (sym (add-one height)) b
 
 -- the end of the list under another name
-pub concluded : (C : Contract) (limit : ℕ) (rows words : List ℕ) {e f : ListEnd} → f ≡ e → ListEnds C limit rows words e → ListEnds C limit rows words f
-concluded C limit rows words same c = subst (λ (x : ListEnd). ListEnds C limit rows words x) (sym same) c
+pub list-ends-as : (C : Contract) (limit : ℕ) (rows words : List ℕ) {e f : ListEnd} → f ≡ e → EndOfList C limit rows words e → EndOfList C limit rows words f
+list-ends-as C limit rows words same c = subst (λ (x : ListEnd). EndOfList C limit rows words x) (sym same) c
 
 -- the loops stand before the same symbol under another name
 pub at-symbol : {C : Contract} {r : Round} {s i j n : ℕ} {slots rows words : List ℕ} (k : ℕ) → s ≡ k

@@ -3,7 +3,7 @@ use Prim.Native.Nat.{ℕ}
 use mathlib.Core.List.{List}
 use Rattle.prepared.specs.declared.Prepared.{Prepared}
 use Rattle.prepared.specs.Parts.{contractIn}
-use Rattle.kind_lists.specs.Outcomes.{Outcome, ListEnds}
+use Rattle.kind_lists.specs.Outcomes.{Outcome, EndOfList}
 use Rattle.kind_lists.specs.declared.Progress.{Progress}
 use Rattle.kind_lists.specs.declared.ListEnd.{ListEnd}
 use Rattle.rounds.specs.Between.{Between}
@@ -15,4 +15,4 @@ module _ (p : Prepared) (table : List ℕ) (limit : ℕ) where
 
   -- the list ends
   abbrev pub Lists : (rows words : List ℕ) → ListEnd → Type 0
-  Lists rows words = ListEnds (contractIn p table) limit rows words
+  Lists rows words = EndOfList (contractIn p table) limit rows words

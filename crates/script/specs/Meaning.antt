@@ -113,8 +113,8 @@ line text = 32 ∷ (text ++ (10 ∷ []))
 abbrev pub labelled : State → List ℕ → List ℕ
 labelled state text = state .label ++ line text
 
--- "X10 judged 1 3" (result, numbers taken), "while run lines keep two numbers"; "10 carries h beside the limit, printed last", so "X5
--- refused 10 1 0"
+-- "X10 judged 1 3" (result, numbers taken), "while run lines keep two numbers"; "10 carries h beside the limit, printed last", so
+-- "X5 refused 10 1 0"
 abbrev pub answerText : Answer → List ℕ
 answerText admitted = phrases.admitted
 answerText (judged result taken) = phrases.judged ++ decimal result ++ (32 ∷ decimal taken)

@@ -47,7 +47,7 @@ fn of_whole(document: &[u16], answer: Answer) -> Answer {
     }
 }
 
-/// An old build's answer to a check that a new one answers so: it may not tell the height of a stop.
+/// The old build's answer with the height of the new one's, where both stop: an old build may not tell it.
 fn with_height_of(new: Answer, old: Answer) -> Answer {
     match (new, old) {
         (Answer::Stopped { height, .. }, Answer::Stopped { limit, .. }) => Answer::Stopped { limit, height },

@@ -52,7 +52,7 @@ check-meaning C good lent =
 -- "a larger limit, if it stops too, never gives a smaller h": what is among the first L is among the first M
 pub larger-limit-stop : (C : Contract) → Admitted C → (first second : Lent) → LargerLimitStop C first second
 larger-limit-stop C good first second less h k one two =
-    check-meaning C good second .stopExactly k .0 two .isGreatest h (λ t over low. wider (check-meaning C good first .stopExactly h .0 one .covers t over low))
+    check-meaning C good second .stopExactly k .0 two .isGreatest h (λ t over low. wider (check-meaning C good first .stopExactly h .0 one .allAmong t over low))
   where
     wider : {kind : List ℕ} → AmongFirst C (first .limit) kind → AmongFirst C (second .limit) kind
     wider a = record { round = a .round; row = a .row; belowLimit = omega (arith, a .belowLimit); inside = a .inside; found = a .found }

@@ -5,7 +5,7 @@ use Prim.Native.Nat.{ℕ}
 use Rattle.model.specs.Trees.{Tree}
 use Rattle.model.specs.Tables.{OutputType}
 use Rattle.model.specs.Claims.{TypeAllows}
-use Rattle.model.specs.Merging.{MergedBy, MergeTree, part, both, PutTogether, PartOf, AllowSame, MergeLaw}
+use Rattle.model.specs.Merging.{MergedBy, MergeSteps, part, both, PutTogether, PartOf, AllowSame, MergeLaw}
 use Rattle.model.proofs.Meaning.MergingAnswers.{merging-means}
 
 module _ (S : ℕ) where
@@ -15,10 +15,10 @@ module _ (S : ℕ) where
       rw (by .made) (merging-means S Y (by .secondSymbols) Z (by .tableBuffer) (by .marksBuffer) .isMerged (by .states) (by .answered) .allows u)
 
   -- of each part
-  abbrev All : MergeTree → Tree → Type 0
+  abbrev All : MergeSteps → Tree → Type 0
   All p u = (Y : OutputType) → PartOf Y p → TypeAllows Y u
 
-  allows-all : (p : MergeTree) (M : OutputType) → PutTogether S p M → (u : Tree) → TypeAllows M u ↔ All p u
+  allows-all : (p : MergeSteps) (M : OutputType) → PutTogether S p M → (u : Tree) → TypeAllows M u ↔ All p u
   allows-all (part Y) M e u = (
     λ a X is. subst (λ (T : OutputType). TypeAllows T u) (sym is) (subst (λ (T : OutputType). TypeAllows T u) e a),
     λ all. subst (λ (T : OutputType). TypeAllows T u) (sym e) (all Y refl),
@@ -33,7 +33,7 @@ module _ (S : ℕ) where
       each f g (inl a) = f a
       each f g (inr b) = g b
 
-  same-parts : (p q : MergeTree) → ((Y : OutputType) → PartOf Y p ↔ PartOf Y q) → AllowSame S p q
+  same-parts : (p q : MergeSteps) → ((Y : OutputType) → PartOf Y p ↔ PartOf Y q) → AllowSame S p q
   same-parts p q same M N one two u =
       let (down, up) = allows-all p M one u in
       let (other-down, other-up) = allows-all q N two u in

@@ -16,7 +16,7 @@ use Rattle.model.proofs.Laws.Answers.{Numbers, refusal-admits-nothing, 
 use Rattle.model.proofs.Rounds.Stopping.{Ending, shows, passes, stops, check-ends}
 use Rattle.model.proofs.Meaning.Answers.{stopped-not-refusal}
 use Rattle.model.proofs.Meaning.Runs.{running-refusal}
-use Rattle.model.proofs.Meaning.Verdicts.{admission-refusals, judging-refusals, checking-refusals, running-refusals, writing-refusals, running-numbers, admission-other, judging-other, checking-other, running-other, writing-other}
+use Rattle.model.proofs.Meaning.Verdicts.{admission-refusals, judging-refusals, checking-refusals, running-refusals, writing-refusals, running-numbers, admission-not-ten, judging-not-ten, checking-not-ten, running-not-ten, writing-not-ten}
 
 -- an operation r that gives its verdict's refusal, with the buffers as they were lent, or else a, which is no refusal of these numbers
 module _ {R : Type 0} (r : R) (v : Verdict) (onRefusal : ℕ → ℕ → R) (a : R) (gives : r ≡ given v onRefusal a) (answer : R → Answer)
@@ -121,22 +121,22 @@ operation-refusals =
           (λ (w : Written). w .numbers ∷ []) (buffer ∷ []) (λ n p. (refl, refl)) _ (writing-refusals rows row buffer)
           (λ n p e. written-no-refusal e);
       admissionNotTen = λ C.
-          not-ten (admit C) (admission C) _ _ refl (λ a. a) (λ a. []) [] (λ n p. (refl, refl)) (admission-other C)
+          not-ten (admit C) (admission C) _ _ refl (λ a. a) (λ a. []) [] (λ n p. (refl, refl)) (admission-not-ten C)
           (λ n p f e ten. refusal-admits-nothing n p (sym e ∙ given-fine _ _ _ f));
       judgingNotTen = λ C numbers buffer.
           not-ten (judging C numbers buffer) (judgingVerdict C numbers buffer) _ _ refl (λ (j : Judged). j .answer) (λ (j : Judged). j .words ∷ [])
-          (buffer ∷ []) (λ n p. (refl, refl)) (judging-other C numbers buffer)
+          (buffer ∷ []) (λ n p. (refl, refl)) (judging-not-ten C numbers buffer)
           (λ n p f e ten. judged-no-refusal (sym (ap (λ (j : Judged). j .answer) (given-fine _ _ _ f)) ∙ e));
       checkingNotTen = λ C L rows words.
           not-ten (checking C L rows words) (checkingVerdict C L rows words) _ _ refl (λ (c : Checked). c .answer)
-          (λ (c : Checked). c .rows ∷ c .words ∷ []) (rows ∷ words ∷ []) (λ n p. (refl, refl)) (checking-other C L rows words)
+          (λ (c : Checked). c .rows ∷ c .words ∷ []) (rows ∷ words ∷ []) (λ n p. (refl, refl)) (checking-not-ten C L rows words)
           (λ n p f e ten. check-no-refusal C L n p (sym (ap (λ (c : Checked). c .answer) (given-fine _ _ _ f)) ∙ e));
       runningNotTen = λ C numbers buffer.
           not-ten (running C numbers buffer) (runningVerdict C numbers buffer) _ _ refl (λ (r : Ran). r .answer) (λ (r : Ran). r .rows ∷ [])
-          (buffer ∷ []) (λ n p. (refl, refl)) (running-other C numbers buffer)
+          (buffer ∷ []) (λ n p. (refl, refl)) (running-not-ten C numbers buffer)
           (λ n p f e ten. run-refuses-late (running-refusal C numbers buffer n p f e .reason) (λ l m. omega arith));
       writingNotTen = λ rows row buffer.
           not-ten (writingOut rows row buffer) (writingVerdict rows row buffer) _ _ refl (λ (w : Written). w .answer)
-          (λ (w : Written). w .numbers ∷ []) (buffer ∷ []) (λ n p. (refl, refl)) (writing-other rows row buffer)
+          (λ (w : Written). w .numbers ∷ []) (buffer ∷ []) (λ n p. (refl, refl)) (writing-not-ten rows row buffer)
           (λ n p f e ten. written-no-refusal (sym (ap (λ (w : Written). w .answer) (given-fine _ _ _ f)) ∙ e));
     }

@@ -246,16 +246,16 @@ writing-refusals rows row buffer =
 
 -- The numbers of these refusals: none is one that comes of the work itself
 
--- 10 least of all: of a stop it is the number, and of no refusal
-abbrev Other : ℕ → Type 0
-Other number = number ≡ 10 → ⊥
+-- and none is 10, the number of a stop alone
+abbrev OtherThanTen : ℕ → Type 0
+OtherThanTen number = number ≡ 10 → ⊥
 
-pub admission-other : (C : Contract) → Numbers Other (admission C)
-admission-other C number place e ten = not-late number (admission-numbers C number place e) (omega arith) (omega arith)
+pub admission-not-ten : (C : Contract) → Numbers OtherThanTen (admission C)
+admission-not-ten C number place e ten = not-late number (admission-numbers C number place e) (omega arith) (omega arith)
 
-pub checking-other : (C : Contract) (L : ℕ) (rowBuffer wordBuffer : List ℕ) → Numbers Other (checkingVerdict C L rowBuffer wordBuffer)
+pub checking-not-ten : (C : Contract) (L : ℕ) (rowBuffer wordBuffer : List ℕ) → Numbers OtherThanTen (checkingVerdict C L rowBuffer wordBuffer)
 unfolding checkingVerdict
-checking-other C L rowBuffer wordBuffer = then-numbers _ _ _ (admission-other C) (refuse-first-numbers _ 9 _ 3 (λ ten. omega arith))
+checking-not-ten C L rowBuffer wordBuffer = then-numbers _ _ _ (admission-not-ten C) (refuse-first-numbers _ 9 _ 3 (λ ten. omega arith))
 
 -- of a document: 11 and 12
 pub document-numbers : (P : ℕ → Type 0) (S : ℕ) (numbers : List ℕ) → P 11 → P 12 → Numbers P (leadingVerdict S numbers)
@@ -266,23 +266,23 @@ document-numbers P S numbers eleven twelve = then-numbers P _ _ (refuse-if-numbe
     fault (ends place) = λ number at e. absurd (refused-not-fine number at (sym e))
     fault (faulty place) = refused-numbers P 12 place twelve
 
-pub judging-other : (C : Contract) (numbers buffer : List ℕ) → Numbers Other (judgingVerdict C numbers buffer)
+pub judging-not-ten : (C : Contract) (numbers buffer : List ℕ) → Numbers OtherThanTen (judgingVerdict C numbers buffer)
 unfolding judgingVerdict
-judging-other C numbers buffer =
-    then-numbers _ _ _ (admission-other C)
+judging-not-ten C numbers buffer =
+    then-numbers _ _ _ (admission-not-ten C)
     (then-numbers _ _ _ (refuse-if-numbers _ _ 9 0 (λ ten. omega arith))
     (document-numbers _ _ numbers (λ ten. omega arith) (λ ten. omega arith)))
 
-pub running-other : (C : Contract) (numbers buffer : List ℕ) → Numbers Other (runningVerdict C numbers buffer)
+pub running-not-ten : (C : Contract) (numbers buffer : List ℕ) → Numbers OtherThanTen (runningVerdict C numbers buffer)
 unfolding runningVerdict
-running-other C numbers buffer =
-    then-numbers _ _ _ (admission-other C)
+running-not-ten C numbers buffer =
+    then-numbers _ _ _ (admission-not-ten C)
     (then-numbers _ _ _ (refuse-if-numbers _ _ 9 0 (λ ten. omega arith))
     (document-numbers _ _ numbers (λ ten. omega arith) (λ ten. omega arith)))
 
-pub writing-other : (rows : List ℕ) (row : ℕ) (buffer : List ℕ) → Numbers Other (writingVerdict rows row buffer)
+pub writing-not-ten : (rows : List ℕ) (row : ℕ) (buffer : List ℕ) → Numbers OtherThanTen (writingVerdict rows row buffer)
 unfolding writingVerdict
-writing-other rows row buffer =
+writing-not-ten rows row buffer =
     then-numbers _ _ _ (refuse-if-numbers _ _ 16 0 (λ ten. omega arith))
     (then-numbers _ _ _ (refuse-first-numbers _ 17 _ (rowCount rows) (λ ten. omega arith))
     (then-numbers _ _ _ (refuse-if-numbers _ _ 18 row (λ ten. omega arith)) (refuse-if-numbers _ _ 19 (length buffer) (λ ten. omega arith))))

@@ -65,8 +65,8 @@ module _ (C : Contract) (L : ℕ) where
       go (inr l) = at (omega (arith, a .inside))
 
   -- "every tree of height h or less has its kind among the first L", as the test tells it
-  covers-exactly : (h : ℕ) → T (everyTree (C .transformation .symbols) h (amongFirst C L)) ↔ AllAmongFirst C L h
-  covers-exactly h = (
+  all-among-exactly : (h : ℕ) → T (everyTree (C .transformation .symbols) h (amongFirst C L)) ↔ AllAmongFirst C L h
+  all-among-exactly h = (
     λ e t over low. told-among t (every-tree (C .transformation .symbols) h (amongFirst C L) .0 e t over low),
     λ c. every-tree (C .transformation .symbols) h (amongFirst C L) .1 (λ t over low. among-told t (c t over low)),
   )
@@ -74,8 +74,8 @@ module _ (C : Contract) (L : ℕ) where
   -- round h, of which the limit holds the list, and not that of the next
   module _ (h : ℕ) (last : LastHeld C L h) where
     -- its list has the kind of every tree of height h or less
-    pub held-covers : AllAmongFirst C L h
-    held-covers t over low =
+    pub held-all-among : AllAmongFirst C L h
+    held-all-among t over low =
         let there : HasState A (rounds A h) (treeState A t) = tree-listed A (kinds-decided C) t over h low in
         record {
           round = h;
@@ -122,8 +122,8 @@ module _ (C : Contract) (L : ℕ) where
     stop-height-at =
         let found : greatest (λ k. everyTree (C .transformation .symbols) k (amongFirst C L)) L ≡ h =
         greatest-at (λ k. everyTree (C .transformation .symbols) k (amongFirst C L)) L h held-below
-        (test-true _ (covers-exactly h .1 held-covers))
-        (λ k above below. test-false _ (λ e. let l = held-greatest k (covers-exactly k .0 e) in absurd (omega arith))) in
+        (test-true _ (all-among-exactly h .1 held-all-among))
+        (λ k above below. test-false _ (λ e. let l = held-greatest k (all-among-exactly k .0 e) in absurd (omega arith))) in
         omega (arith, found)
 
   -- where some round lists more rows than the limit, there is such a round before it: round 0 lists one row

@@ -4,12 +4,12 @@ use mathlib.Core.Path.{refl, sym, _∙_}
 use Prim.Native.Nat.{_-_, _≤_}
 use native.Mathlib.Omega.{arith}
 use Rattle.prepared.specs.Parts.{contractIn}
-use Rattle.kind_lists.proofs.Stops.{concludes, goes}
+use Rattle.kind_lists.proofs.Stops.{list-ends, goes}
 use Rattle.round_pairs.specs.Steps.{LeftsMarked, RightsMarked, no-lefts-marked, no-rights-marked}
 use Rattle.rounds.specs.Between.{Between, round-starts, round-ends, passed}
 use Rattle.rounds.specs.Marking.{lefts-marked, rights-marked}
 use Rattle.round_pairs.proofs.Visits.{at-lengths}
-use Rattle.rounds.proofs.Laps.{between-room, between-held, between-some, one-higher, concluded}
+use Rattle.rounds.proofs.Laps.{between-room, between-held, between-some, one-higher, list-ends-as}
 use Rattle.rounds.proofs.all_rounds.Statement.{statement}
 use Rattle.rounds.proofs.all_rounds.Tie as tie
 
@@ -54,8 +54,8 @@ same-length-2 c = at-lengths _ _ _ _ _ _ _ _ (c .before .before .before .before 
 
 returns : tie.Need-returns Inv-loop μ-loop
 returns c =
-    concluded _ _ _ _ (c .ending-of .ensures)
-    (concludes _ _ _ _ _ _ _ (c .before .before .before .before .before .before .one-round .result) (omega arith) (c .before .match .keys2) (between-held (c .before .before .before .before .before .before .before .before .before .before .before .before .before .before .before .before .before .before .before .before .loop .inv .0)) (c .before .before .before .before .before .before .one-round .ensures))
+    list-ends-as _ _ _ _ (c .ending-of .ensures)
+    (list-ends _ _ _ _ _ _ _ (c .before .before .before .before .before .before .one-round .result) (omega arith) (c .before .match .keys2) (between-held (c .before .before .before .before .before .before .before .before .before .before .before .before .before .before .before .before .before .before .before .before .loop .inv .0)) (c .before .before .before .before .before .before .one-round .ensures))
 
 add-height : tie.Need-add-height Inv-loop μ-loop
 add-height c =
@@ -89,7 +89,7 @@ same-length-4 c = between-room (c .before .before .loop .inv .0) .wordRoom ∙ s
 returns-2 : tie.Need-returns-2 Inv-loop μ-loop
 returns-2 c =
     let test = c .before .loop-test .left in
-    concluded _ _ _ _ (c .ending-of2 .ensures) (passed _ (c .before .before .loop .inv .0) (omega arith))
+    list-ends-as _ _ _ _ (c .ending-of2 .ensures) (passed _ (c .before .before .loop .inv .0) (omega arith))
 
 pub all-rounds-spec : {M : Type 1} → statement M
 all-rounds-spec =

@@ -1,7 +1,7 @@
 -- Where round 0 tells the answer, it is the answer; else the rounds go on from it.
 use Rattle.kind_slots.proofs.Finding.{none-entered}
-use Rattle.kind_lists.proofs.Stops.{concludes-first, goes}
-use Rattle.rounds.proofs.Laps.{concluded}
+use Rattle.kind_lists.proofs.Stops.{list-ends-first, goes}
+use Rattle.rounds.proofs.Laps.{list-ends-as}
 use borrow.Author.Needs.{needs}
 use Rattle.rounds.proofs.list_kinds.Statement.{statement}
 use Rattle.rounds.proofs.list_kinds.Tie as tie
@@ -23,8 +23,8 @@ same-length-2 c = search needs
 
 returns : tie.Need-returns
 returns c =
-    concluded _ _ _ _ (c .ending-of .ensures)
-    (concludes-first _ _ _ _ _ (c .before .before .before .before .before .before .first-round .result) (c .before .match .keys2) (c .before .before .before .before .before .before .before .before .before .before .before .before .before .before .pre .3) (c .before .before .before .before .before .before .first-round .ensures))
+    list-ends-as _ _ _ _ (c .ending-of .ensures)
+    (list-ends-first _ _ _ _ _ (c .before .before .before .before .before .before .first-round .result) (c .before .match .keys2) (c .before .before .before .before .before .before .before .before .before .before .before .before .before .before .pre .3) (c .before .before .before .before .before .before .first-round .ensures))
 
 all-rounds-requires : tie.Need-all-rounds-requires
 all-rounds-requires c κs = (c .before .before .before .before .before .before .before .before .before .before .before .before .before .before .before .before .before .before .before .pre .0, c .before .before .before .before .before .before .before .before .before .before .before .before .before .before .before .before .before .before .before .pre .1, goes _ _ _ _ _ _ (c .before .before .before .before .before .before .before .before .before .before .before .first-round .result) _ (c .before .before .before .before .before .step .given .1) (c .before .before .before .before .before .before .before .before .before .before .before .first-round .ensures))
