@@ -2,8 +2,7 @@
 use mathlib.Core.Path.{_≡_, refl, subst, sym, _∙_}
 use mathlib.Core.Bool.{Bool, true, false, _&&_}
 use mathlib.Core.List.{List}
-use Prim.Native.Nat.{ℕ, suc, _+_, _<_, _≤_}
-use native.Mathlib.Numerals.{add-one}
+use Prim.Native.Nat.{ℕ, _<_, _≤_}
 use native.Mathlib.Omega.{arith}
 use borrow.Author.Tests.{ltb-true}
 use lib.Dec.{ltb}
@@ -31,11 +30,11 @@ pub between-some : {C : Contract} {limit height before stood : ℕ} {slots rows 
     → 0 < stood
 between-some {C} {height = height} b = omega (arith, b .standing .counted, rounds-not-empty (kindAutomaton C) height)
 
--- the height, one more
-pub one-higher : {C : Contract} {limit height before stood : ℕ} {slots rows words : List ℕ} → Between C limit (suc height) before stood slots rows words
-    → Between C limit (height + 1) before stood slots rows words
-one-higher {C} {limit} {height} {before} {stood} {slots} {rows} {words} b =
-    subst (λ (h : ℕ). Between C limit h before stood slots rows words) (sym (add-one height)) b
+-- the height under another name
+pub at-height : {C : Contract} {limit height before stood : ℕ} {slots rows words : List ℕ} (k : ℕ) → height ≡ k
+    → Between C limit height before stood slots rows words → Between C limit k before stood slots rows words
+at-height {C} {limit} {before = before} {stood = stood} {slots = slots} {rows = rows} {words = words} k e b =
+    subst (λ (h : ℕ). Between C limit h before stood slots rows words) e b
 
 -- the end of the list under another name
 pub list-ends-as : (C : Contract) (limit : ℕ) (rows words : List ℕ) {e f : ListEnd} → f ≡ e → EndOfList C limit rows words e → EndOfList C limit rows words f

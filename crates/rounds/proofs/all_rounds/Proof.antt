@@ -9,7 +9,7 @@ use Rattle.round_pairs.specs.Steps.{LeftsMarked, RightsMarked, no-lefts-marked,
 use Rattle.rounds.specs.Between.{Between, round-starts, round-ends, passed}
 use Rattle.rounds.specs.Marking.{lefts-marked, rights-marked}
 use Rattle.round_pairs.proofs.Visits.{at-lengths}
-use Rattle.rounds.proofs.Laps.{between-room, between-held, between-some, one-higher, list-ends-as}
+use Rattle.rounds.proofs.Laps.{between-room, between-held, between-some, at-height, list-ends-as}
 use Rattle.rounds.proofs.all_rounds.Statement.{statement}
 use Rattle.rounds.proofs.all_rounds.Tie as tie
 
@@ -75,7 +75,7 @@ loop-again c =
     let inv = c .before .before .before .before .before .before .before .before .before .before .before .before .before .before .before .before .before .before .before .before .before .loop .inv in
     let known = pre .0 .prepared .established in
     let test = c .before .before .before .before .before .before .before .before .before .before .before .before .before .before .before .before .before .before .before .before .loop-test .taken in
-    (one-higher (round-ends _ (goes _ _ _ _ _ _ (c .before .before .before .before .before .before .before .one-round .result) _ (c .before .step .given .1) (c .before .before .before .before .before .before .before .one-round .ensures))), lefts-marked _ known _ _ (pre .1) (inv .0) (inv .1) (c .before .before .before .before .before .before .before .before .before .before .before .before .before .before .before .before .before .mark-rows .ensures), rights-marked _ known _ _ (pre .1) (inv .0) (inv .2) (c .before .before .before .before .before .before .before .before .before .before .before .before .before .before .mark-rows2 .ensures), omega (arith, inv .3))
+    (at-height _ (omega arith) (round-ends _ (goes _ _ _ _ _ _ (c .before .before .before .before .before .before .before .one-round .result) _ (c .before .step .given .1) (c .before .before .before .before .before .before .before .one-round .ensures))), lefts-marked _ known _ _ (pre .1) (inv .0) (inv .1) (c .before .before .before .before .before .before .before .before .before .before .before .before .before .before .before .before .before .mark-rows .ensures), rights-marked _ known _ _ (pre .1) (inv .0) (inv .2) (c .before .before .before .before .before .before .before .before .before .before .before .before .before .before .mark-rows2 .ensures), omega (arith, inv .3))
 
 ending-of-requires-2 : tie.Need-ending-of-requires-2 Inv-loop μ-loop
 ending-of-requires-2 c κs = tt
