@@ -11,7 +11,7 @@ use Rattle.model.specs.Checking.{Checked, standing, check, checkingVerdi
 use Rattle.model.specs.Running.{Ran, runningVerdict, running}
 use Rattle.model.specs.WritingOut.{Written, writingVerdict, writingOut}
 use Rattle.model.specs.Meaning.{RunRefusal, no-rule, no-row, too-many-calls}
-use Rattle.model.specs.Refusals.{Reason, FirstReason, RefusesFor, Refuses, NotOfRun, NotTen, OperationRefusals}
+use Rattle.model.specs.Refusals.{Reason, FirstReason, RefusesFor, Refuses, NotOfRun, admissionReasons, judgingReasons, checkingReasons, runningReasons, writingReasons, OperationRefusals}
 use Rattle.model.proofs.Laws.Answers.{Numbers, refusal-admits-nothing, given-fine, given-refused}
 use Rattle.model.proofs.Rounds.Stopping.{Ending, shows, passes, stops, check-ends}
 use Rattle.model.proofs.Meaning.Answers.{stopped-not-refusal}
@@ -36,14 +36,6 @@ module _ {R : Type 0} (r : R) (v : Verdict) (onRefusal : ℕ → ℕ → R) (a :
           let eq : q ≡ place = cc in
           f ∙ ap₂ refused em eq
 
-  -- where nothing is refused and a is no refusal, r is none
-  never-refused : ((number place : ℕ) → answer a ≡ refusal number place → ⊥) → (number place : ℕ) → v ≡ fine → answer r ≡ refusal number place → ⊥
-  never-refused never number place f e = never number place (sym (ap answer (gives ∙ given-fine onRefusal a v f)) ∙ e)
-
-  not-ten : Numbers (λ number. number ≡ 10 → ⊥) v → ((number place : ℕ) → v ≡ fine → answer r ≡ refusal number place → number ≡ 10 → ⊥)
-      → NotTen (answer r)
-  not-ten other never place e = other 10 place (told 10 place (λ f g. never 10 place f g refl) e) refl
-
   module _ (reasons : List Reason) (for : RefusesFor reasons v) where
     -- where Early says which numbers are meant
     early-refuses : (Early : ℕ → Type 0) → ((number place : ℕ) → FirstReason reasons number place → Early number)
@@ -62,7 +54,7 @@ module _ {R : Type 0} (r : R) (v : Verdict) (onRefusal : ℕ → ℕ → R) (a :
     all-refuse : ((number place : ℕ) → answer a ≡ refusal number place → ⊥)
         → Refuses reasons (λ number place. answer r ≡ refusal number place) lent (buffers r)
     all-refuse never =
-        let early = early-refuses (λ number. Unit {0}) (λ number place f. tt) (λ number place f e one. never-refused never number place f e) in
+        let early = early-refuses (λ number. Unit {0}) (λ number place f. tt) (λ number place f e one. never number place (sym (ap answer (gives ∙ given-fine onRefusal a v f)) ∙ e)) in
         record {
           exactly = λ number place. (λ e. early .exactly number place .0 (e, tt), λ f. early .exactly number place .1 f .0);
           nothingWritten = λ number place e. early .nothingWritten number place (e, tt);
@@ -97,46 +89,72 @@ run-refuses-late (no-rule e l) early = early (omega arith) (omega arith)
 run-refuses-late (no-row e l) early = early (omega arith) (omega arith)
 run-refuses-late (too-many-calls e l) early = early (omega arith) (omega arith)
 
+admission-refuses : (C : Contract) → Refuses (admissionReasons C) (λ number place. admit C ≡ refusal number place) [] []
+unfolding admit
+admission-refuses C =
+    all-refuse (admit C) (admission C) _ _ refl (λ a. a) (λ a. []) [] (λ n p. (refl, refl)) _ (admission-refusals C)
+    (λ n p e. refusal-admits-nothing n p (sym e))
+
+judging-refuses : (C : Contract) (numbers buffer : List ℕ)
+    → Refuses (judgingReasons C numbers buffer) (λ number place. judging C numbers buffer .answer ≡ refusal number place) (buffer ∷ [])
+    (judging C numbers buffer .words ∷ [])
+unfolding judging
+judging-refuses C numbers buffer =
+    all-refuse (judging C numbers buffer) (judgingVerdict C numbers buffer) _ _ refl (λ (j : Judged). j .answer) (λ (j : Judged). j .words ∷ [])
+    (buffer ∷ []) (λ n p. (refl, refl)) _ (judging-refusals C numbers buffer) (λ n p e. judged-no-refusal e)
+
+checking-refuses : (C : Contract) (L : ℕ) (rows words : List ℕ)
+    → Refuses (checkingReasons C L rows words) (λ number place. checking C L rows words .answer ≡ refusal number place) (rows ∷ words ∷ [])
+    (checking C L rows words .rows ∷ checking C L rows words .words ∷ [])
+unfolding checking
+checking-refuses C L rows words =
+    all-refuse (checking C L rows words) (checkingVerdict C L rows words) _ _ refl (λ (c : Checked). c .answer)
+    (λ (c : Checked). c .rows ∷ c .words ∷ []) (rows ∷ words ∷ []) (λ n p. (refl, refl)) _ (checking-refusals C L rows words)
+    (λ n p e. check-no-refusal C L n p e)
+
+running-refuses : (C : Contract) (numbers buffer : List ℕ)
+    → Refuses (runningReasons C numbers buffer) (λ number place. (running C numbers buffer .answer ≡ refusal number place) × NotOfRun number)
+    (buffer ∷ [])
+    (running C numbers buffer .rows ∷ [])
+unfolding running
+running-refuses C numbers buffer =
+    early-refuses (running C numbers buffer) (runningVerdict C numbers buffer) _ _ refl (λ (r : Ran). r .answer) (λ (r : Ran). r .rows ∷ [])
+    (buffer ∷ []) (λ n p. (refl, refl)) _ (running-refusals C numbers buffer) NotOfRun
+    (λ n p f. running-numbers C numbers buffer n p (running-refusals C numbers buffer .refuses n p .1 f))
+    (λ n p f e meant. run-refuses-late (running-refusal C numbers buffer n p f e .reason) meant)
+
+writing-refuses : (rows : List ℕ) (row : ℕ) (buffer : List ℕ)
+    → Refuses (writingReasons rows row buffer) (λ number place. writingOut rows row buffer .answer ≡ refusal number place) (buffer ∷ [])
+    (writingOut rows row buffer .numbers ∷ [])
+unfolding writingOut
+writing-refuses rows row buffer =
+    all-refuse (writingOut rows row buffer) (writingVerdict rows row buffer) _ _ refl (λ (w : Written). w .answer)
+    (λ (w : Written). w .numbers ∷ []) (buffer ∷ []) (λ n p. (refl, refl)) _ (writing-refusals rows row buffer)
+    (λ n p e. written-no-refusal e)
+
+-- an answer that refuses by 10 would be the verdict's refusal
+not-ten : {reasons : List Reason} {v : Verdict} {Answers : (number place : ℕ) → Type 0} {lent closing : List (List ℕ)} → RefusesFor reasons v
+    → Numbers (λ number. number ≡ 10 → ⊥) v
+    → Refuses reasons Answers lent closing
+    → (place : ℕ) → Answers 10 place → ⊥
+not-ten for other refuses place e = other 10 place (for .refuses 10 place .1 (refuses .exactly 10 place .0 e)) refl
+
 pub operation-refusals : OperationRefusals
-unfolding admit judging checking running writingOut
 operation-refusals =
     record {
-      ofAdmission = λ C.
-          all-refuse (admit C) (admission C) _ _ refl (λ a. a) (λ a. []) [] (λ n p. (refl, refl)) _ (admission-refusals C)
-          (λ n p e. refusal-admits-nothing n p (sym e));
-      ofJudging = λ C numbers buffer.
-          all-refuse (judging C numbers buffer) (judgingVerdict C numbers buffer) _ _ refl (λ (j : Judged). j .answer) (λ (j : Judged). j .words ∷ [])
-          (buffer ∷ []) (λ n p. (refl, refl)) _ (judging-refusals C numbers buffer) (λ n p e. judged-no-refusal e);
-      ofChecking = λ C L rows words.
-          all-refuse (checking C L rows words) (checkingVerdict C L rows words) _ _ refl (λ (c : Checked). c .answer)
-          (λ (c : Checked). c .rows ∷ c .words ∷ []) (rows ∷ words ∷ []) (λ n p. (refl, refl)) _ (checking-refusals C L rows words)
-          (λ n p e. check-no-refusal C L n p e);
-      ofRunning = λ C numbers buffer.
-          early-refuses (running C numbers buffer) (runningVerdict C numbers buffer) _ _ refl (λ (r : Ran). r .answer) (λ (r : Ran). r .rows ∷ [])
-          (buffer ∷ []) (λ n p. (refl, refl)) _ (running-refusals C numbers buffer) NotOfRun
-          (λ n p f. running-numbers C numbers buffer n p (running-refusals C numbers buffer .refuses n p .1 f))
-          (λ n p f e meant. run-refuses-late (running-refusal C numbers buffer n p f e .reason) meant);
-      ofWritingOut = λ rows row buffer.
-          all-refuse (writingOut rows row buffer) (writingVerdict rows row buffer) _ _ refl (λ (w : Written). w .answer)
-          (λ (w : Written). w .numbers ∷ []) (buffer ∷ []) (λ n p. (refl, refl)) _ (writing-refusals rows row buffer)
-          (λ n p e. written-no-refusal e);
-      admissionNotTen = λ C.
-          not-ten (admit C) (admission C) _ _ refl (λ a. a) (λ a. []) [] (λ n p. (refl, refl)) (admission-not-ten C)
-          (λ n p f e ten. refusal-admits-nothing n p (sym e ∙ given-fine _ _ _ f));
+      ofAdmission = admission-refuses;
+      ofJudging = judging-refuses;
+      ofChecking = checking-refuses;
+      ofRunning = running-refuses;
+      ofWritingOut = writing-refuses;
+      admissionNotTen = λ C. not-ten (admission-refusals C) (admission-not-ten C) (admission-refuses C);
       judgingNotTen = λ C numbers buffer.
-          not-ten (judging C numbers buffer) (judgingVerdict C numbers buffer) _ _ refl (λ (j : Judged). j .answer) (λ (j : Judged). j .words ∷ [])
-          (buffer ∷ []) (λ n p. (refl, refl)) (judging-not-ten C numbers buffer)
-          (λ n p f e ten. judged-no-refusal (sym (ap (λ (j : Judged). j .answer) (given-fine _ _ _ f)) ∙ e));
+          not-ten (judging-refusals C numbers buffer) (judging-not-ten C numbers buffer) (judging-refuses C numbers buffer);
       checkingNotTen = λ C L rows words.
-          not-ten (checking C L rows words) (checkingVerdict C L rows words) _ _ refl (λ (c : Checked). c .answer)
-          (λ (c : Checked). c .rows ∷ c .words ∷ []) (rows ∷ words ∷ []) (λ n p. (refl, refl)) (checking-not-ten C L rows words)
-          (λ n p f e ten. check-no-refusal C L n p (sym (ap (λ (c : Checked). c .answer) (given-fine _ _ _ f)) ∙ e));
-      runningNotTen = λ C numbers buffer.
-          not-ten (running C numbers buffer) (runningVerdict C numbers buffer) _ _ refl (λ (r : Ran). r .answer) (λ (r : Ran). r .rows ∷ [])
-          (buffer ∷ []) (λ n p. (refl, refl)) (running-not-ten C numbers buffer)
-          (λ n p f e ten. run-refuses-late (running-refusal C numbers buffer n p f e .reason) (λ l m. omega arith));
+          not-ten (checking-refusals C L rows words) (checking-not-ten C L rows words) (checking-refuses C L rows words);
+      runningNotTen = λ C numbers buffer place e.
+          not-ten (running-refusals C numbers buffer) (running-not-ten C numbers buffer) (running-refuses C numbers buffer) place
+          (e, λ l m. omega arith);
       writingNotTen = λ rows row buffer.
-          not-ten (writingOut rows row buffer) (writingVerdict rows row buffer) _ _ refl (λ (w : Written). w .answer)
-          (λ (w : Written). w .numbers ∷ []) (buffer ∷ []) (λ n p. (refl, refl)) (writing-not-ten rows row buffer)
-          (λ n p f e ten. written-no-refusal (sym (ap (λ (w : Written). w .answer) (given-fine _ _ _ f)) ∙ e));
+          not-ten (writing-refusals rows row buffer) (writing-not-ten rows row buffer) (writing-refuses rows row buffer);
     }
