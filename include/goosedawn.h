@@ -1,5 +1,5 @@
 /* Goosedawn for C: contracts admitted and checked, documents judged, transformed and compared, trees written out,
- * output types merged.
+ * output types merged, lists of kinds examined.
  *
  * Link with target/staticlib/libgoosedawn_c.a, which `rt staticlib goosedawn_c` proves and writes (x86-64).
  *
@@ -210,6 +210,25 @@ goosedawn_merging goosedawn_merge(size_t symbols, size_t states, const uint16_t 
                                   size_t second_states, const uint16_t *second_table, size_t second_table_length,
                                   const uint16_t *second_marks, size_t second_marks_length, uint16_t *merged_table,
                                   size_t merged_table_length, uint16_t *merged_marks, size_t merged_marks_length);
+
+/* Examines a list of kinds for a contract, whoever made it: at most 4096 kinds, five words each, as judging writes one.
+ * It is accepted exactly if it holds the kind of the empty forest, holds the kind of every symbol from 1 on over every two
+ * of its kinds, and holds none that breaks the contract (one that has bit 32, an accepted input state, and a fact of
+ * procedure 0 with an output state that is not accepted). Then no document breaks the contract. The kinds that a check
+ * lists when it passes are accepted.
+ *
+ * The kinds may stand in any order and be repeated, and there may be kinds that no tree has. words_length counts words,
+ * five for each kind. Bits that stand for nothing are ignored: in word 0 all but those of the input states, 32 and 33;
+ * in words 1 to 4 those of no fact.
+ *
+ * Number and place are 0 if it is accepted. Otherwise the refusals of goosedawn_admit, then
+ *   70  the length is no multiple of five or above 20480: the length
+ *   71  the kind of the empty forest is missing: 0
+ *   72  the kind of a symbol over two kinds of the list is missing: (symbol x 4096 + left) x 4096 + right, the lowest. So
+ *       symbol is place / 16777216, left is place / 4096 % 4096, right is place % 4096; see examples/c/examine.c
+ *   73  a kind breaks the contract: the lowest number of one
+ * Left, right and the number of a kind count the kinds of the list as it is handed in, from 0. */
+goosedawn_refusal goosedawn_examine(GOOSEDAWN_CONTRACT, const uint64_t *words, size_t words_length);
 
 #ifdef __cplusplus
 }

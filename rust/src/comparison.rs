@@ -150,6 +150,22 @@ fn ask_types(left: &impl Engine, right: &impl Engine, random: &mut Random, seen:
     Ok(())
 }
 
+fn ask_list(
+    left: &impl Engine,
+    right: &impl Engine,
+    random: &mut Random,
+    contract: &Contract,
+    seen: &mut Seen,
+) -> Result<(), Difference> {
+    let words = generator::list(random, contract);
+    let question = || format!("examine {words:?} {contract:?}");
+    match agree((), question, |_| left.examine(contract, &words), |_| right.examine(contract, &words))? {
+        Err(_) => seen.refused += 1,
+        Ok(_) => seen.answered += 1,
+    }
+    Ok(())
+}
+
 /// Asks as many random questions of each sort; the first difference, or what was seen.
 pub fn compare(left: &impl Engine, right: &impl Engine, seed: u64, questions: usize) -> Result<Seen, Difference> {
     let mut random = Random::new(seed);
@@ -160,6 +176,7 @@ pub fn compare(left: &impl Engine, right: &impl Engine, seed: u64, questions: us
         ask_rows(left, right, &mut random, &mut seen)?;
         ask_pair(left, right, &mut random, &mut seen)?;
         ask_types(left, right, &mut random, &mut seen)?;
+        ask_list(left, right, &mut random, &contract, &mut seen)?;
     }
     Ok(seen)
 }

@@ -1,4 +1,5 @@
-//! The five operations, the comparing of two documents and the merging of two output types, for whoever performs them.
+//! The five operations, the comparing of two documents, the merging of two output types and the examining of lists of kinds,
+//! for whoever performs them.
 
 use crate::contract::{Contract, OutputType};
 use std::fmt;
@@ -28,6 +29,15 @@ impl Answer {
             _ => None,
         }
     }
+
+    /// How many kinds a check lists in the word buffer, from its start on; none for any other answer, so for a stop too.
+    pub fn kinds(self) -> Option<usize> {
+        match self {
+            Answer::Pass { count } => Some(count),
+            Answer::Tree { row } => Some(row + 1),
+            _ => None,
+        }
+    }
 }
 
 /// The words of a script's answer line: a run's leaves out the numbers taken, a stop's ends with the height.
@@ -48,6 +58,14 @@ impl fmt::Display for Answer {
 
 /// Why something is refused: the number and the place.
 pub type Refusal = (u64, usize);
+
+/// The words of a script's line of a list that was examined.
+pub fn verdict(examined: Result<(), Refusal>) -> String {
+    match examined {
+        Ok(()) => "accepted".to_string(),
+        Err((number, place)) => Answer::Refused { number, place }.to_string(),
+    }
+}
 
 /// The seam: [`crate::model::Model`] is one engine, the proved library another.
 ///
@@ -170,4 +188,53 @@ pub trait Engine {
         table: &mut [u16],
         marks: &mut [u16],
     ) -> Result<usize, Refusal>;
+
+    /// Examines a list of kinds, five words each, whoever made it. It is accepted exactly if it holds the kind of the empty
+    /// forest, holds the kind of every symbol over every two of its kinds, and holds none that breaks the contract. Then no
+    /// document breaks the contract. The kinds may stand in any order and be repeated, and there may be some that no tree has; bits that
+    /// stand for no input state, mark or fact are ignored.
+    ///
+    /// The first refusal that applies: those of admission; 70, the length is no multiple of five or above 20480 (the
+    /// length); 71, the empty forest's kind is missing (0); 72, the kind of a symbol over two kinds of the list is missing
+    /// ((symbol × 4096 + left) × 4096 + right, the first by symbol, then left, then right; [`missing`] takes it apart); 73, a
+    /// kind breaks the contract (its number). Left, right and that number count the kinds of the list as it is.
+    ///
+    /// What a check lists when it passes is accepted:
+    ///
+    /// ```
+    /// use goosedawn::contract::Contract;
+    /// use goosedawn::engine::{missing, Answer, Engine};
+    /// use goosedawn::library::Library;
+    ///
+    /// // Any document of one sort of element, copied; every output is allowed.
+    /// let contract = Contract {
+    ///     symbols: 2,
+    ///     input_states: 1,
+    ///     output_states: 1,
+    ///     counts: vec![0],
+    ///     input_rows: vec![0, 0, 0, 0, 0, 1, 0, 0],
+    ///     input_marks: vec![1],
+    ///     output_table: vec![0, 0],
+    ///     output_marks: vec![1],
+    ///     nodes: vec![1, 0, 0, 0, 0, 2, 0, 1, 0, 0, 2, 0, 2, 0, 0, 1, 1, 0, 1, 2],
+    ///     rules: vec![0, 0, 0, 0, 1, 3],
+    /// };
+    /// let library = Library::default();
+    /// let (mut rows, mut words) = ([0; 3 * 3], [0; 5 * 3]);
+    /// assert_eq!(library.check(&contract, 3, &mut rows, &mut words), Answer::Pass { count: 3 });
+    /// assert_eq!(library.examine(&contract, &words), Ok(()));
+    ///
+    /// // Without its last kind, that of several roots, there is none of symbol 1 over kinds 0 and 1.
+    /// assert_eq!(library.examine(&contract, &words[..10]), Err((72, 16_777_217)));
+    /// assert_eq!(missing(16_777_217), [1, 0, 1]);
+    /// ```
+    fn examine(&self, contract: &Contract, words: &[u64]) -> Result<(), Refusal>;
+}
+
+/// The most kinds of a list that is examined.
+pub const MOST_KINDS: usize = 4096;
+
+/// What the place of refusal 72 tells: the symbol, and the numbers of the left and the right kind in the list.
+pub fn missing(place: usize) -> [usize; 3] {
+    [place / MOST_KINDS / MOST_KINDS, place / MOST_KINDS % MOST_KINDS, place % MOST_KINDS]
 }

@@ -1,7 +1,12 @@
 //! Random questions from a seed: the same seed gives the same questions everywhere.
 
 use crate::contract::{Contract, OutputTables};
+use crate::engine::MOST_KINDS;
+use crate::model::admission::admission;
+use crate::model::checking::first_kinds;
 use crate::model::documents::MOST_NUMBERS;
+use crate::model::examining::bits_of_kinds;
+use crate::model::kinds::Kind;
 use std::ops::Range;
 
 /// A small generator of random numbers (xorshift with a multiplication).
@@ -476,6 +481,96 @@ pub fn merging(random: &mut Random) -> Merging {
     let pairs = states.0 * states.1;
     let table_room = room(random, 1 + (symbols - 1) * pairs * pairs);
     Merging { first, second, table_room, marks_room: room(random, pairs) }
+}
+
+fn any_kind(random: &mut Random) -> Kind {
+    std::array::from_fn(|_| random.draw())
+}
+
+/// Puts the kinds of a list into another order.
+fn shuffle(random: &mut Random, list: &mut [Kind]) {
+    for place in (1..list.len()).rev() {
+        list.swap(place, random.below(place + 1));
+    }
+}
+
+/// Sets some bits of a list's kinds that stand for nothing.
+fn set_idle_bits(random: &mut Random, contract: &Contract, list: &mut [Kind]) {
+    let bits = bits_of_kinds(contract);
+    for kind in list {
+        let idle = any_kind(random);
+        (0..5).for_each(|word| kind[word] |= idle[word] & !bits[word]);
+    }
+}
+
+/// Changes a kind in an input state, a mark or a fact of procedure 0.
+fn flip_bit(random: &mut Random, contract: &Contract, kind: &mut Kind) {
+    match random.below(3) {
+        0 => kind[0] ^= 1 << random.below(contract.input_states),
+        1 => kind[0] ^= 1 << random.within(32, 33),
+        _ => kind[1] ^= 1 << random.below(contract.output_states),
+    }
+}
+
+/// Changes a list that is not empty: a kind is left out, added or changed in a bit, some are repeated, or there are others.
+fn change_list(random: &mut Random, contract: &Contract, list: &mut Vec<Kind>) {
+    let place = index(random, list.len());
+    match random.below(6) {
+        0 => {
+            list.remove(place);
+        }
+        1 => list.insert(place, any_kind(random)),
+        2 => flip_bit(random, contract, &mut list[place]),
+        3 | 4 => {
+            for _ in 0..random.within(1, 4) {
+                let (kind, place) = (list[random.below(list.len())], random.within(0, list.len()));
+                list.insert(place, kind);
+            }
+        }
+        _ => *list = (0..random.within(0, 4)).map(|_| any_kind(random)).collect(),
+    }
+}
+
+/// The kinds of an admitted contract, all of them or the first, in any order, changed or not.
+pub fn kinds_of(random: &mut Random, contract: &Contract, most: usize) -> Vec<Kind> {
+    let mut list = first_kinds(contract, most);
+    if random.once_in(2) {
+        shuffle(random, &mut list);
+    }
+    if random.once_in(2) {
+        change_list(random, contract, &mut list);
+    }
+    if random.once_in(2) {
+        set_idle_bits(random, contract, &mut list);
+    }
+    list
+}
+
+/// Words of about as many kinds as a list may have, or of one more: kinds of a list, again and again.
+fn about_the_most_kinds(random: &mut Random, list: &[Kind]) -> Vec<u64> {
+    let most = 5 * random.within(MOST_KINDS - 1, MOST_KINDS + 1);
+    list.iter().flatten().copied().cycle().take(most).collect()
+}
+
+/// A list of kinds of any sort, as words: all kinds of the contract or others; now and then of a wrong length, or one kind
+/// about 4,096 times, and for a contract of one symbol, which has no pairs to look at, several so often.
+pub fn list(random: &mut Random, contract: &Contract) -> Vec<u64> {
+    let kinds = match admission(contract) {
+        Ok(()) => {
+            let most = if random.once_in(4) { random.within(1, 8) } else { 48 };
+            kinds_of(random, contract, most)
+        }
+        Err(_) => (0..random.within(0, 2)).map(|_| any_kind(random)).collect(),
+    };
+    let mut words = match random.below(24) {
+        0 => about_the_most_kinds(random, &kinds[..kinds.len().min(1)]),
+        1 | 2 if contract.symbols == 1 => about_the_most_kinds(random, &kinds),
+        _ => kinds.concat(),
+    };
+    if random.once_in(16) {
+        words.truncate(words.len().saturating_sub(random.within(1, 4)));
+    }
+    words
 }
 
 /// Rows over smaller rows, sometimes damaged.

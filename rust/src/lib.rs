@@ -1,13 +1,13 @@
 //! Goosedawn seen from Rust.
 //!
 //! * [`contract`]: the tables of a contract and of an output type by itself, as they are handed in.
-//! * [`engine`]: the five operations, the comparing of two documents and the merging of two output types as a trait, and
-//!   their answers. The seam at which an implementation is plugged in.
+//! * [`engine`]: the five operations, the comparing of two documents, the merging of two output types and the examining of
+//!   lists of kinds as a trait, and their answers. The seam at which an implementation is plugged in.
 //! * [`model`]: an independent, plain implementation of these.
 //! * [`library`]: the proved library, called through its C functions.
 //! * [`script`]: scripts of questions, played on any engine.
-//! * [`generator`]: random contracts, documents, rows, pairs of buffers and pairs of output types, valid and damaged, from
-//!   a seed.
+//! * [`generator`]: random contracts, documents, rows, pairs of buffers, pairs of output types and lists of kinds, valid and
+//!   damaged, from a seed.
 //! * [`counters`]: contracts that count, with as many kinds as wanted, or with all of them at one slot.
 //! * [`trees`]: all trees up to a height, and the heights of those that rows stand for.
 //! * [`comparison`]: two engines asked the same random questions.

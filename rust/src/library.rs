@@ -79,7 +79,7 @@ macro_rules! call {
     ($name:ident, $contract:expr $(, $rest:expr)*) => {{
         let c: &Contract = $contract;
         // Each pair is a live slice of that length, and no slice that is written overlaps another.
-        let reply = unsafe {
+        unsafe {
             $name(
                 c.symbols, c.input_states, c.output_states,
                 c.counts.as_ptr(), c.counts.len(),
@@ -91,8 +91,7 @@ macro_rules! call {
                 c.rules.as_ptr(), c.rules.len(),
                 $($rest),*
             )
-        };
-        Answer::from(reply)
+        }
     }};
 }
 
@@ -127,15 +126,15 @@ macro_rules! build {
         }
 
         const $build: Functions = Functions {
-            admit: |contract| call!($admit, contract),
+            admit: |contract| call!($admit, contract).into(),
             judge: |contract, numbers, kind| {
-                call!($judge, contract, numbers.as_ptr(), numbers.len(), kind.as_mut_ptr(), kind.len())
+                call!($judge, contract, numbers.as_ptr(), numbers.len(), kind.as_mut_ptr(), kind.len()).into()
             },
             check: |contract, limit, rows, words| {
-                call!($check, contract, limit, rows.as_mut_ptr(), rows.len(), words.as_mut_ptr(), words.len())
+                call!($check, contract, limit, rows.as_mut_ptr(), rows.len(), words.as_mut_ptr(), words.len()).into()
             },
             run: |contract, numbers, rows| {
-                call!($run, contract, numbers.as_ptr(), numbers.len(), rows.as_mut_ptr(), rows.len())
+                call!($run, contract, numbers.as_ptr(), numbers.len(), rows.as_mut_ptr(), rows.len()).into()
             },
             write_out: |rows, row, buffer| {
                 // Both pairs are live slices of those lengths, and the one that is written does not overlap the other.
@@ -166,6 +165,16 @@ struct Stretch {
 struct Told {
     number: usize,
     place: usize,
+}
+
+impl Told {
+    fn refusal(self) -> Option<Refusal> {
+        (self.number != 0).then_some((self.number as u64, self.place))
+    }
+}
+
+of_contract! { Told;
+    goosedawn_examine(words: *const u64, word_count: usize);
 }
 
 /// How many states a merged type has, or why there is none; what is not told is 0.
@@ -233,8 +242,8 @@ impl Library {
     }
 
     /// An older build, which `tests/compare` renames and links beside the present one. How many numbers a document took
-    /// and the height of a stop are not to be read from its answers. `shorter`, `shorter_refusal` and `merge` are the
-    /// present build's: an older one may not have them.
+    /// and the height of a stop are not to be read from its answers. `shorter`, `shorter_refusal`, `merge` and `examine`
+    /// are the present build's: an older one may not have them.
     #[cfg(feature = "compare")]
     pub fn old() -> Library {
         Library { functions: OLD, run_stack: RUN_STACK }
@@ -285,7 +294,7 @@ impl Engine for Library {
         // Both pairs are live slices of those lengths, and nothing is written.
         let told =
             unsafe { goosedawn_shorter_refusal(symbols, first.as_ptr(), first.len(), second.as_ptr(), second.len()) };
-        (told.number != 0).then_some((told.number as u64, told.place))
+        told.refusal()
     }
 
     fn merge(
@@ -321,5 +330,10 @@ impl Engine for Library {
             Merging { states: 0, number: number @ 1.., place } => Err((number as u64, place)),
             other => panic!("the library does not answer {other:?}"),
         }
+    }
+
+    fn examine(&self, contract: &Contract, words: &[u64]) -> Result<(), Refusal> {
+        let told: Told = call!(goosedawn_examine, contract, words.as_ptr(), words.len());
+        told.refusal().map_or(Ok(()), Err)
     }
 }

@@ -1,9 +1,9 @@
-//! Scripts of questions, and their answers line for line. docs/FORMAT.md describes both; the statements `taken`, `shorter`
-//! and `merge`, and those that set a second output type for it, belong to these scripts alone, and the program `goosedawn`
-//! does not know them.
+//! Scripts of questions, and their answers line for line. docs/FORMAT.md describes both; the statements `taken`, `shorter`,
+//! `merge` and `examine`, and those that set a second output type or a list of kinds for them, belong to these scripts alone,
+//! and the program `goosedawn` does not know them.
 
 use crate::contract::{Contract, OutputTables, OutputType};
-use crate::engine::{Answer, Engine, Refusal};
+use crate::engine::{verdict, Answer, Engine, Refusal};
 use std::fmt::Write;
 
 /// The most bytes of a script that are read.
@@ -15,6 +15,7 @@ pub const MOST_SHOWN: usize = 32;
 /// What a fault says was expected.
 const A_STATEMENT: &str = "a statement";
 const A_NUMBER: &str = "a number from 0 to 65535";
+const A_WORD: &str = "a number from 0 to 18446744073709551615";
 const A_NAME: &str = "a name";
 const THE_WORD_AND: &str = "the word and";
 
@@ -45,6 +46,9 @@ second-states N: how many states the second output type has
 second-table N ..: the second output type's table, as output-table
 second-marks N ..: the second output type's marks, as output-marks
 merge T M: merge the contract's output type and the second into buffers of T and M numbers, which show prints then
+kinds W ..: the list of kinds that examine reads, five words each
+kinds-of-check: the kinds that the last check listed are that list
+examine: examine the list: whether it holds the kinds of all trees, and none that breaks the contract
 ";
 
 /// A token: where it starts, and its bytes.
@@ -74,13 +78,27 @@ fn is_blank(byte: u8) -> bool {
     matches!(byte, b' ' | b'\t' | b'\r' | b'\n')
 }
 
-/// A token that is a number is decimal digits alone; the value of one above 65535 is `None`.
-fn number(token: &[u8]) -> Option<Option<u16>> {
+/// A sort of number: one of a table, or a word of a kind.
+trait Number: TryFrom<u64> {
+    const EXPECTED: &'static str;
+}
+
+impl Number for u16 {
+    const EXPECTED: &'static str = A_NUMBER;
+}
+
+impl Number for u64 {
+    const EXPECTED: &'static str = A_WORD;
+}
+
+/// A token that is a number is decimal digits alone; the value of one that is too large for its sort is `None`.
+fn number<T: Number>(token: &[u8]) -> Option<Option<T>> {
     if token.is_empty() || !token.iter().all(u8::is_ascii_digit) {
         return None;
     }
-    let value = token.iter().fold(0u32, |value, digit| (value * 10 + u32::from(digit - b'0')).min(65_536));
-    Some(u16::try_from(value).ok())
+    let add = |value: u64, digit: &u8| value.checked_mul(10)?.checked_add(u64::from(digit - b'0'));
+    let value = token.iter().try_fold(0, add);
+    Some(value.and_then(|value| T::try_from(value).ok()))
 }
 
 impl<'a> Reader<'a> {
@@ -143,12 +161,12 @@ impl<'a> Reader<'a> {
     }
 
     /// The numbers up to the next word, or to the end.
-    fn numbers(&mut self) -> Result<Vec<u16>, Fault> {
+    fn numbers<T: Number>(&mut self) -> Result<Vec<T>, Fault> {
         let mut values = Vec::new();
         while let Some(token) = self.peek()? {
             match number(token.bytes) {
                 Some(Some(value)) => values.push(value),
-                Some(None) => return Err(self.fault(Some(token), A_NUMBER)),
+                Some(None) => return Err(self.fault(Some(token), T::EXPECTED)),
                 None => break,
             }
             self.take(token);
@@ -209,6 +227,10 @@ struct Player<'e, E: Engine> {
     second: OutputTables,
     rows: Vec<u16>,
     left: Left,
+    /// The words of the kinds that the last check listed.
+    kinds_of_check: Vec<u64>,
+    /// The list of kinds that `examine` reads.
+    kinds: Vec<u64>,
     /// How many numbers the last document took.
     taken: Option<usize>,
     said: String,
@@ -232,6 +254,10 @@ impl<E: Engine> Player<'_, E> {
         self.say(&line);
     }
 
+    fn say_refusal(&mut self, number: u64, place: usize) {
+        self.say(&Answer::Refused { number, place }.to_string());
+    }
+
     /// The rows that an operation leaves become the current ones unless it was refused without writing.
     fn keep_rows(&mut self, answer: Answer, rows: &[u16]) {
         let written = !matches!(answer, Answer::Refused { number, .. } if !(13..=15).contains(&number));
@@ -247,6 +273,7 @@ impl<E: Engine> Player<'_, E> {
         let answer = self.engine.check(&self.contract, limit, &mut rows, &mut words);
         self.say(&answer.to_string());
         self.keep_rows(answer, &rows);
+        self.kinds_of_check = words[..5 * answer.kinds().unwrap_or(0)].to_vec();
         self.left = Left { rows: Some(rows), words: Some(words), ..Left::default() };
     }
 
@@ -301,7 +328,7 @@ impl<E: Engine> Player<'_, E> {
     fn shorter(&mut self, symbols: u16, first: &[u16], second: &[u16]) {
         let symbols = usize::from(symbols);
         if let Some((number, place)) = self.engine.shorter_refusal(symbols, first, second) {
-            return self.say(&Answer::Refused { number, place }.to_string());
+            return self.say_refusal(number, place);
         }
         let shorter = self.engine.shorter(symbols, first, second);
         let buffer = buffer_of(shorter, first, second);
@@ -313,9 +340,14 @@ impl<E: Engine> Player<'_, E> {
         let [table, marks] = &mut buffers;
         match self.engine.merge(self.contract.output_type(), self.second.output_type(), table, marks) {
             Ok(states) => self.say(&format!("merged {states}")),
-            Err((number, place)) => self.say(&Answer::Refused { number, place }.to_string()),
+            Err((number, place)) => self.say_refusal(number, place),
         }
         self.left = Left { merged: Some(buffers), ..Left::default() };
+    }
+
+    fn examine(&mut self) {
+        let examined = self.engine.examine(&self.contract, &self.kinds);
+        self.say(&verdict(examined));
     }
 
     /// One statement, or false at the end.
@@ -375,6 +407,9 @@ impl<E: Engine> Player<'_, E> {
                 let marks_room = reader.number()?;
                 self.merge(table_room, marks_room);
             }
+            b"kinds" => self.kinds = reader.numbers()?,
+            b"kinds-of-check" => self.kinds.clone_from(&self.kinds_of_check),
+            b"examine" => self.examine(),
             _ => return Err(reader.fault(Some(word), A_STATEMENT)),
         }
         Ok(true)
@@ -413,6 +448,8 @@ pub fn play<E: Engine>(engine: &E, script: &[u8]) -> Played {
         second: OutputTables::default(),
         rows: Vec::new(),
         left: Left::default(),
+        kinds_of_check: Vec::new(),
+        kinds: Vec::new(),
         taken: None,
         said: String::new(),
     };
@@ -469,6 +506,9 @@ pub fn checks(script: &[u8]) -> Vec<(String, Contract, u16)> {
         }
         fn merge(&self, _: OutputType, _: OutputType, _: &mut [u16], _: &mut [u16]) -> Result<usize, Refusal> {
             Ok(0)
+        }
+        fn examine(&self, _: &Contract, _: &[u64]) -> Result<(), Refusal> {
+            Ok(())
         }
     }
     let collector = Collector(std::cell::RefCell::new(Vec::new()));

@@ -2,18 +2,18 @@
 
 use crate::comparison::agree;
 use crate::contract::Contract;
-use crate::engine::{Answer, Engine};
+use crate::engine::{verdict, Answer, Engine};
 use crate::script::checks;
 use std::ffi::c_int;
 use std::fmt::{self, Debug, Display, Formatter};
 use std::time::{Duration, Instant};
 
 /// What both engines answer, the least time of each in microseconds, and the ratio of left to right.
-#[derive(Clone, Copy, Debug)]
+#[derive(Clone, Debug)]
 pub struct Times {
-    pub answer: Answer,
+    pub answer: String,
     /// What the right one answers where it goes by other rules.
-    pub other: Option<Answer>,
+    pub other: Option<String>,
     pub left: f64,
     pub right: f64,
     pub ratio: f64,
@@ -23,7 +23,7 @@ pub struct Times {
 impl Display for Times {
     fn fmt(&self, f: &mut Formatter<'_>) -> fmt::Result {
         let Times { answer, other, left, right, ratio } = self;
-        write!(f, "{:<16} {left:>12.2} {right:>12.2} {ratio:>7.3}", answer.to_string())?;
+        write!(f, "{answer:<16} {left:>12.2} {right:>12.2} {ratio:>7.3}")?;
         match other {
             Some(other) => write!(f, "  (the other: {other})"),
             None => Ok(()),
@@ -50,29 +50,51 @@ const SPENT: Duration = Duration::from_millis(300);
 /// How often an engine is asked at least that is timed by itself.
 const LEAST_QUESTIONS: usize = 3;
 
-/// The answer of a check, and its least time in microseconds.
-fn time(engine: &impl Engine, contract: &Contract, limit: usize) -> (Answer, f64) {
-    let mut rows = vec![0; 3 * limit];
-    let mut words = vec![0; 5 * limit];
-    let mut least = Duration::MAX;
+/// The answer to a question, and its least time in microseconds.
+fn time<A>(mut ask: impl FnMut() -> A) -> (A, f64) {
     let began = Instant::now();
-    let mut questions = 0;
-    let mut answer = Answer::Admitted;
-    while questions < LEAST_QUESTIONS || began.elapsed() < SPENT {
+    let mut timed = || {
         let start = Instant::now();
-        answer = engine.check(contract, limit, &mut rows, &mut words);
-        least = least.min(start.elapsed());
+        (ask(), start.elapsed())
+    };
+    let (mut answer, mut least) = timed();
+    let mut questions = 1;
+    while questions < LEAST_QUESTIONS || began.elapsed() < SPENT {
+        let (again, elapsed) = timed();
+        (answer, least) = (again, least.min(elapsed));
         questions += 1;
     }
     (answer, least.as_secs_f64() * 1e6)
 }
 
-/// Times a check by one engine and then by the other.
-pub fn one_after_the_other(left: &impl Engine, right: &impl Engine, contract: &Contract, limit: usize) -> Times {
-    let (answer, left) = time(left, contract, limit);
-    let (expected, right) = time(right, contract, limit);
+/// Times a question about a contract by one engine and then by the other; gives the answer of both.
+fn one_after_the_other<A: PartialEq + Debug>(
+    contract: &Contract,
+    left: impl FnMut() -> A,
+    right: impl FnMut() -> A,
+    words_of: impl Fn(A) -> String,
+) -> Times {
+    let (answer, left) = time(left);
+    let (expected, right) = time(right);
     assert_eq!(answer, expected, "{contract:?}");
-    Times { answer, other: None, left, right, ratio: left / right }
+    Times { answer: words_of(answer), other: None, left, right, ratio: left / right }
+}
+
+/// Times a check by one engine and then by the other.
+pub fn time_checks(left: &impl Engine, right: &impl Engine, contract: &Contract, limit: usize) -> Times {
+    let (mut rows, mut words) = (vec![0; 3 * limit], vec![0; 5 * limit]);
+    let (mut other_rows, mut other_words) = (rows.clone(), words.clone());
+    one_after_the_other(
+        contract,
+        || left.check(contract, limit, &mut rows, &mut words),
+        || right.check(contract, limit, &mut other_rows, &mut other_words),
+        |answer| answer.to_string(),
+    )
+}
+
+/// Times the examining of a list of kinds by one engine and then by the other.
+pub fn time_examining(left: &impl Engine, right: &impl Engine, contract: &Contract, words: &[u64]) -> Times {
+    one_after_the_other(contract, || left.examine(contract, words), || right.examine(contract, words), verdict)
 }
 
 /// A turn takes about this long: reading the clock is a small part of it.
@@ -169,8 +191,8 @@ fn turns<B>(
         }
     }
     Times {
-        answer,
-        other: (right_answer != answer).then_some(right_answer),
+        answer: answer.to_string(),
+        other: (right_answer != answer).then(|| right_answer.to_string()),
         left: least(rounds.iter().map(|round| round.0)),
         right: least(rounds.iter().map(|round| round.1)),
         ratio: middle(rounds.iter().map(|round| round.0 / round.1).collect()),

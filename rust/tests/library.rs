@@ -29,6 +29,7 @@ struct Counted {
     writings: Cell<usize>,
     pairs: Cell<usize>,
     mergings: Cell<usize>,
+    lists: Cell<usize>,
 }
 
 fn count(cell: &Cell<usize>) {
@@ -73,6 +74,10 @@ impl Engine for Counted {
         count(&self.mergings);
         self.library.merge(first, second, table, marks)
     }
+    fn examine(&self, contract: &Contract, words: &[u64]) -> Result<(), Refusal> {
+        count(&self.lists);
+        self.library.examine(contract, words)
+    }
 }
 
 /// Plays a script; says how many lines agree and how many answers of each operation they hold. True if all agree.
@@ -83,7 +88,8 @@ fn agrees(script: &Path, answers: &Path) -> bool {
     let lines = right.lines().count();
     let same = said.lines().zip(right.lines()).filter(|(said, right)| said == right).count();
     println!(
-        "{}: {same} of {lines} lines agree; admit {}, judge {}, check {}, run {}, write {}, shorter {}, merge {}",
+        "{}: {same} of {lines} lines agree; admit {}, judge {}, check {}, run {}, write {}, shorter {}, merge {}, \
+        examine {}",
         script.file_name().expect("a name").to_string_lossy(),
         engine.admissions.get(),
         engine.judgings.get(),
@@ -92,6 +98,7 @@ fn agrees(script: &Path, answers: &Path) -> bool {
         engine.writings.get(),
         engine.pairs.get(),
         engine.mergings.get(),
+        engine.lists.get(),
     );
     if let Some((said, right)) = said.lines().zip(right.lines()).find(|(said, right)| said != right) {
         println!("  {said} instead of {right}");

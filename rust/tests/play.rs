@@ -35,6 +35,7 @@ fn standard_input() {
     prints(&run(&[], "case a admit taken"), 0, "a refused 1 0\na taken none\n");
     prints(&run(&[], "shorter 2 1 0 0 and 0"), 0, "- shorter second 1: 0\n");
     prints(&run(&[], "merge 0 1 show"), 0, "- refused 51 0\n- table\n- marks 7\n");
+    prints(&run(&[], "kinds 18446744073709551615 examine"), 0, "- refused 1 0\n");
     prints(&run(&[], ""), 0, "");
 }
 

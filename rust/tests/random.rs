@@ -2,12 +2,16 @@
 
 use goosedawn::comparison::compare;
 use goosedawn::contract::{tuple, Contract, OutputType};
-use goosedawn::engine::{Answer, Engine};
-use goosedawn::generator::{contract, damaged, document, merging, numbers, pair, valid, Merging, Pair, Random, Size};
+use goosedawn::engine::{missing, Answer, Engine};
+use goosedawn::generator::{
+    contract, damaged, document, list, merging, numbers, pair, valid, Merging, Pair, Random, Size,
+};
 use goosedawn::model::documents::{leading_document, right_children};
-use goosedawn::model::kinds::{Kind, EMPTY, ONE_ROOT};
+use goosedawn::model::examining::bits_of_kinds;
+use goosedawn::model::kinds::{Kind, Kinds, EMPTY, ONE_ROOT};
 use goosedawn::model::{Model, Refusal};
 use goosedawn::trees::row_height;
+use std::collections::HashSet;
 use std::ptr;
 
 #[test]
@@ -97,12 +101,7 @@ impl Checked {
     fn new(contract: Contract) -> Option<Checked> {
         let mut words = [0; 5 * 64];
         let answer = Model.check(&contract, 64, &mut [0; 3 * 64], &mut words);
-        let count = match answer {
-            Answer::Pass { count } => count,
-            Answer::Tree { row } => row + 1,
-            _ => return None,
-        };
-        let kinds = words.chunks(5).take(count).map(|kind| kind.try_into().expect("five words")).collect();
+        let kinds = words.chunks(5).take(answer.kinds()?).map(|kind| kind.try_into().expect("five words")).collect();
         Some(Checked { contract, answer, kinds })
     }
 
@@ -312,11 +311,124 @@ fn mergings_meet_every_case() {
     }
 }
 
+/// A list of kinds for a contract, and what the model says of it.
+struct List {
+    contract: Contract,
+    words: Vec<u64>,
+    examined: Result<(), Refusal>,
+}
+
+impl List {
+    fn new(random: &mut Random) -> List {
+        let contract = contract(random);
+        let words = list(random, &contract);
+        let examined = Model.examine(&contract, &words);
+        List { contract, words, examined }
+    }
+
+    fn accepted(&self) -> bool {
+        self.examined.is_ok()
+    }
+
+    fn is_refused(&self, due: u64) -> bool {
+        self.examined.is_err_and(|(number, _)| number == due)
+    }
+
+    /// The kinds of the list without the bits that stand for nothing.
+    fn kinds(&self) -> Vec<Kind> {
+        let bits = bits_of_kinds(&self.contract);
+        self.words.chunks_exact(5).map(|kind| std::array::from_fn(|word| kind[word] & bits[word])).collect()
+    }
+
+    fn has_idle_bits(&self) -> bool {
+        self.kinds().concat() != self.words
+    }
+
+    fn has_repeats(&self) -> bool {
+        let kinds = self.kinds();
+        kinds.iter().collect::<HashSet<_>>().len() < kinds.len()
+    }
+
+    fn begins_with_empty(&self) -> bool {
+        self.kinds().first() == Some(&Kinds::new(&self.contract).empty())
+    }
+
+    /// The number of the first kind that breaks the contract.
+    fn breaking(&self) -> Option<usize> {
+        let kinds = Kinds::new(&self.contract);
+        self.kinds().iter().position(|kind| kinds.breaks(kind))
+    }
+
+    /// Symbol, left and right of refusal 72.
+    fn missing(&self) -> Option<[usize; 3]> {
+        match self.examined {
+            Err((72, place)) => Some(missing(place)),
+            _ => None,
+        }
+    }
+}
+
+/// Whether a contract with a list is such a case.
+type ListCase = fn(&List) -> bool;
+
+#[test]
+fn lists_meet_every_case() {
+    let cases: [(&str, ListCase); 30] = [
+        ("accepted, of many kinds", |l| l.accepted() && l.words.len() > 5 * 20),
+        ("accepted, in another order", |l| l.accepted() && !l.begins_with_empty()),
+        ("accepted, with repeats", |l| l.accepted() && l.has_repeats() && l.contract.symbols > 1),
+        ("accepted, with idle bits", |l| l.accepted() && l.has_idle_bits() && l.contract.symbols > 1),
+        ("accepted, of one symbol", |l| l.accepted() && l.contract.symbols == 1),
+        ("accepted, of the most kinds", |l| l.accepted() && l.words.len() == 5 * 4096),
+        ("accepted, with 32 states", |l| l.accepted() && l.contract.input_states == 32),
+        ("accepted, of over 128 facts", |l| l.accepted() && bits_of_kinds(&l.contract)[3] != 0),
+        ("accepted, with both marks in one kind", |l| {
+            l.accepted() && l.kinds().iter().any(|kind| kind[0] & ONE_ROOT != 0 && kind[0] & EMPTY != 0)
+        }),
+        ("no contract", |l| l.examined.is_err_and(|(number, _)| number < 70)),
+        ("no contract, and a wrong length", |l| {
+            l.examined.is_err_and(|(number, _)| number < 70) && l.words.len() % 5 != 0
+        }),
+        ("no multiple of five", |l| l.is_refused(70) && l.words.len() < 5 * 4096),
+        ("one kind too many", |l| l.examined == Err((70, 5 * 4097))),
+        ("too many words, and no multiple", |l| l.is_refused(70) && l.words.len() > 20_480 && l.words.len() % 5 != 0),
+        ("the empty list", |l| l.examined == Err((71, 0)) && l.words.is_empty()),
+        ("without the empty kind", |l| l.examined == Err((71, 0)) && l.words.len() > 5 * 8),
+        ("without the empty kind, with a breaking one", |l| l.is_refused(71) && l.breaking().is_some()),
+        ("not closed at once", |l| l.missing() == Some([1, 0, 0])),
+        ("closed under symbol 1, not under a later one", |l| l.missing().is_some_and(|[symbol, _, _]| symbol > 1)),
+        ("not closed under a later left kind", |l| l.missing().is_some_and(|[_, left, _]| left > 0)),
+        ("not closed over the last left kind alone", |l| {
+            l.missing().is_some_and(|[_, left, _]| left > 0 && left + 1 == l.words.len() / 5)
+        }),
+        ("not closed over a later right kind", |l| l.missing().is_some_and(|[_, _, right]| right > 0)),
+        ("not closed over the last right kind alone", |l| {
+            l.missing().is_some_and(|[_, _, right]| right > 0 && right + 1 == l.words.len() / 5)
+        }),
+        ("not closed, with idle bits", |l| l.is_refused(72) && l.has_idle_bits()),
+        ("not closed, with repeats", |l| l.is_refused(72) && l.has_repeats()),
+        ("not closed, with a breaking kind", |l| l.is_refused(72) && l.breaking().is_some()),
+        ("not closed, of the most kinds", |l| l.is_refused(72) && l.words.len() == 5 * 4096),
+        ("a breaking kind", |l| l.is_refused(73) && l.contract.symbols > 1),
+        ("a breaking kind, the first", |l| l.examined == Err((73, 0))),
+        ("a breaking kind, the last", |l| l.is_refused(73) && l.breaking() == Some(l.words.len() / 5 - 1)),
+    ];
+    let mut random = Random::new(9);
+    let made: Vec<_> = (0..8000).map(|_| List::new(&mut random)).collect();
+    for (name, case) in cases {
+        let met = made.iter().filter(|list| case(list)).count();
+        println!("{name}: {met}");
+        assert!(met > 0, "{name}");
+    }
+}
+
 #[test]
 fn the_same_seed_gives_the_same_questions() {
     let (mut a, mut b) = (Random::new(7), Random::new(7));
     for _ in 0..100 {
-        assert_eq!(contract(&mut a), contract(&mut b));
+        let made = contract(&mut a);
+        assert_eq!(made, contract(&mut b));
+        assert_eq!(list(&mut a, &made), list(&mut b, &made));
         assert_eq!(pair(&mut a), pair(&mut b));
         assert_eq!(merging(&mut a), merging(&mut b));
     }
@@ -344,6 +456,24 @@ enum Wrong {
     Filled,
     /// A merging that is refused writes the first mark.
     Written,
+    /// A list is accepted only if it begins with the empty forest's kind.
+    EmptyFirst,
+    /// A list is accepted only if it has no bits that stand for nothing.
+    AnyBits,
+    /// A breaking kind is told before a list that is not closed.
+    BreakingFirst,
+}
+
+impl Wrong {
+    /// What this engine says of a list of which the model says something else; the contract is admitted.
+    fn examined(&self, list: &List) -> Option<Refusal> {
+        match self {
+            Wrong::EmptyFirst if list.accepted() && !list.begins_with_empty() => Some((71, 0)),
+            Wrong::AnyBits if list.accepted() && list.has_idle_bits() => Some((71, 0)),
+            Wrong::BreakingFirst if list.is_refused(72) => Some((73, list.breaking()?)),
+            _ => None,
+        }
+    }
 }
 
 /// The height of the tree of the last row that a check lists before it stops, read off a check with the largest limit.
@@ -417,6 +547,11 @@ impl Engine for Wrong {
         }
         merged
     }
+    fn examine(&self, contract: &Contract, words: &[u64]) -> Result<(), Refusal> {
+        let examined = Model.examine(contract, words);
+        let list = List { contract: contract.clone(), words: words.to_vec(), examined };
+        self.examined(&list).map_or(examined, Err)
+    }
 }
 
 #[test]
@@ -429,6 +564,9 @@ fn a_wrong_engine_is_noticed() {
         (Wrong::Copied, "shorter "),
         (Wrong::Filled, "merge "),
         (Wrong::Written, "merge "),
+        (Wrong::EmptyFirst, "examine "),
+        (Wrong::AnyBits, "examine "),
+        (Wrong::BreakingFirst, "examine "),
     ];
     for (wrong, question) in wrong_engines {
         let difference = compare(&Model, &wrong, 11, 500).expect_err("a difference");

@@ -1,5 +1,5 @@
 //! The worked example, the script of every answer, the numbers taken, the shorter of two documents, two output types merged,
-//! and what a script with a fault prints.
+//! lists of kinds examined, and what a script with a fault prints.
 
 use goosedawn::model::Model;
 use goosedawn::script::{play, Played, HELP, MOST_BYTES};
@@ -182,6 +182,52 @@ fn merging_leaves_the_contract_the_rows_and_the_numbers_taken() {
     says(&script, &format!("- run 0 1\n- refused 52 0\n- written 1: 0\n- taken 1\n{judged}"));
 }
 
+/// The kinds of `COPY`: the empty forest, one root, several roots.
+const KINDS: &str = "kinds 8589934593 1 0 0 0   4294967297 1 0 0 0   1 1 0 0 0 ";
+
+#[test]
+fn a_list_examined() {
+    let of_copy = |script: &str, said: &str| says(&format!("{COPY} {script}"), said);
+    of_copy(&format!("{KINDS} examine"), "- accepted\n");
+    of_copy(&format!("{KINDS} case a # twice\nexamine examine"), "a accepted\na accepted\n");
+    // every bit but that of one root, but that of the empty forest, every bit
+    of_copy("kinds 18446744069414584319 18446744073709551615 9 9 9 examine", "- refused 72 16777216\n");
+    of_copy("kinds 18446744065119617023 18446744073709551615 9 9 9 examine", "- refused 71 0\n");
+    of_copy("kinds 18446744073709551615 18446744073709551615 9 9 9 examine", "- refused 71 0\n");
+    of_copy(&format!("{KINDS} output-marks 0 examine"), "- refused 73 1\n");
+    of_copy("kinds 1 2 3 4 examine", "- refused 70 4\n");
+    of_copy(&format!("kinds {} examine", "7 ".repeat(20_485)), "- refused 70 20485\n");
+}
+
+#[test]
+fn a_list_is_empty_until_it_is_set() {
+    says("examine", "- refused 1 0\n");
+    says(&format!("{COPY} examine"), "- refused 71 0\n");
+    says(&format!("{COPY} {KINDS} kinds examine"), "- refused 71 0\n");
+    says(&format!("{COPY} {KINDS} kinds-of-check examine"), "- refused 71 0\n");
+}
+
+#[test]
+fn the_kinds_of_a_check() {
+    let of_copy = |script: &str, said: &str| says(&format!("{COPY} {script}"), said);
+    of_copy("check 3 kinds-of-check examine", "- pass 3\n- accepted\n");
+    of_copy("check 512 kinds-of-check examine", "- pass 3\n- accepted\n");
+    // one kind missing, that of several roots: no row is listed behind a tree that breaks the contract
+    of_copy("output-marks 0 check 9 kinds-of-check examine", "- tree 1\n- refused 72 16777217\n");
+    // a stop and a refusal leave none
+    of_copy("check 2 kinds-of-check examine", "- refused 10 2 1\n- refused 71 0\n");
+    of_copy("check 3 check 0 kinds-of-check examine", "- pass 3\n- refused 9 0\n- refused 71 0\n");
+    // a check does not change the list by itself, and what is asked in between does not change the check's
+    of_copy(&format!("{KINDS} check 2 examine"), "- refused 10 2 1\n- accepted\n");
+    of_copy("check 3 judge 0 run 1 0 kinds-of-check examine", "- pass 3\n- judged 0 1\n- run 0 1\n- accepted\n");
+}
+
+#[test]
+fn examining_leaves_what_is_shown_and_taken_and_the_rows() {
+    let script = format!("{COPY} run 1 0 9 {KINDS} examine kinds 1 examine show taken write 0 1");
+    says(&script, "- run 0 1\n- accepted\n- refused 70 1\n- rows 0 0 0\n- taken 1\n- written 1: 0\n");
+}
+
 #[test]
 fn an_unknown_word() {
     stops("admit\n\nchek 5\nadmit", "- refused 1 0\nline 3: found chek, expected a statement\n");
@@ -207,6 +253,10 @@ fn a_number_that_is_too_large() {
     stops("second-marks 0 65536", &format!("line 1: found 65536, {expected}"));
     stops("merge 65536 0", &format!("line 1: found 65536, {expected}"));
     stops("merge 0 65536", &format!("line 1: found 65536, {expected}"));
+    let expected = "expected a number from 0 to 18446744073709551615\n";
+    stops("kinds 18446744073709551616", &format!("line 1: found 18446744073709551616, {expected}"));
+    stops("kinds 0\n99999999999999999999999", &format!("line 2: found 99999999999999999999999, {expected}"));
+    says("kinds 65536 00018446744073709551615 examine", "- refused 1 0\n");
 }
 
 #[test]
@@ -221,6 +271,8 @@ fn a_statement_cut_off() {
     stops("merge\nshow", "line 2: found show, expected a number from 0 to 65535\n");
     stops("merge 3\nshow", "line 2: found show, expected a number from 0 to 65535\n");
     stops("merge 3 4 5", "- refused 51 0\nline 1: found 5, expected a statement\n");
+    stops("kinds-of-check 5", "line 1: found 5, expected a statement\n");
+    stops("examine 5", "- refused 1 0\nline 1: found 5, expected a statement\n");
 }
 
 #[test]

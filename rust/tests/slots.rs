@@ -49,21 +49,21 @@ fn all_start_at(slot: usize, counters: &Counters) {
 
 #[test]
 fn all_kinds_start_at_the_last_slot() {
-    all_start_at(1023, &Counters { symbols: 2, rights: 7, lefts: 7, totals: 7, nodes: 4, idle: 1, common: 9 });
-    all_start_at(1023, &Counters { symbols: 3, rights: 3, lefts: 2, totals: 2, nodes: 8, idle: 1, common: 9 });
+    all_start_at(1023, &Counters { symbols: 2, rights: &[7], lefts: &[7], totals: &[7], nodes: 4, idle: 1, common: 9 });
+    all_start_at(1023, &Counters { symbols: 3, rights: &[3], lefts: &[2], totals: &[2], nodes: 8, idle: 1, common: 9 });
 }
 
 #[test]
 fn all_kinds_start_at_an_early_slot() {
-    all_start_at(1, &Counters { symbols: 2, rights: 8, lefts: 7, totals: 6, nodes: 4, idle: 10, common: 1 });
-    all_start_at(0, &Counters { symbols: 2, rights: 7, lefts: 7, totals: 7, nodes: 4, idle: 0, common: 10 });
+    all_start_at(1, &Counters { symbols: 2, rights: &[8], lefts: &[7], totals: &[6], nodes: 4, idle: 10, common: 1 });
+    all_start_at(0, &Counters { symbols: 2, rights: &[7], lefts: &[7], totals: &[7], nodes: 4, idle: 0, common: 10 });
 }
 
 /// Hundreds of kinds start at a few slots, so that runs of occupied slots are long and may meet.
 #[test]
 fn kinds_start_at_few_slots() {
     for common in 1..10 {
-        let counters = Counters { symbols: 2, rights: 8, lefts: 7, totals: 6, nodes: 4, idle: 0, common };
+        let counters = Counters { symbols: 2, rights: &[8], lefts: &[7], totals: &[6], nodes: 4, idle: 0, common };
         let slots = starts(&counters);
         let few: BTreeSet<_> = slots.iter().collect();
         assert!(counters.only_slot().is_none() && 1 < few.len() && 20 * few.len() < slots.len());

@@ -38,11 +38,7 @@ struct Listed {
 
 fn listed(engine: &impl Engine, contract: &Contract) -> Option<Listed> {
     let (answer, rows, words) = checked(engine, contract, LIMIT);
-    let count = match answer {
-        Answer::Pass { count } => count,
-        Answer::Tree { row } => row + 1,
-        _ => return None,
-    };
+    let count = answer.kinds()?;
     Some(Listed {
         rows: (0..count).map(|row| tuple(&rows, row)).collect(),
         kinds: words.chunks(5).take(count).map(|kind| kind.try_into().expect("five words")).collect(),
@@ -96,7 +92,7 @@ fn the_greatest_height() {
 /// "a larger limit, if it stops too, never gives a smaller h"; it is one less than the height of the first tree left out.
 #[test]
 fn larger_limits() {
-    let counters = Counters { symbols: 2, rights: 7, lefts: 7, totals: 7, nodes: 4, idle: 1, common: 9 };
+    let counters = Counters { symbols: 2, rights: &[7], lefts: &[7], totals: &[7], nodes: 4, idle: 1, common: 9 };
     let mut random = Random::new(22);
     let mut contracts: Vec<_> = (0..400).map(|_| valid(&mut random, Size::Small)).collect();
     contracts.push(counters.contract());

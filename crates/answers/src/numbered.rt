@@ -39,7 +39,7 @@ fn node_fault_number(fault: NodeFault) -> usize
     }
 }
 
-fn of_contract(fault: ContractFault) -> Answer
+pub fn of_contract(fault: ContractFault) -> Answer
     ensures { λ r. ⌜ numbered r ≡ contractRefusal fault ⌝ }
 {
     match fault {

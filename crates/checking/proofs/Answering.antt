@@ -1,5 +1,5 @@
 -- Each refusal and the check, as the definition gives them.
-use mathlib.Core.Path.{_≡_, refl, subst, sym, _∙_}
+use mathlib.Core.Path.{_≡_, refl, subst, _∙_}
 use mathlib.Core.List.{List}
 use Prim.Native.Nat.{ℕ, _<_, _≤_}
 use lib.ListN.{length}
@@ -20,7 +20,6 @@ use Rattle.answers.proofs.Answered.{refused-as}
 use Rattle.admission.proofs.Answered.{admitted-fine}
 use Rattle.kind_lists.specs.Listing.{Room}
 use Rattle.kind_lists.specs.Closing.{Gives}
-use Rattle.classes.specs.Masks.{Covered}
 use Rattle.prepared.specs.declared.Prepared.{Prepared}
 use Rattle.prepared.specs.Parts.{contractIn}
 use Rattle.preparing.specs.Packing.{Prepares}
@@ -65,7 +64,3 @@ module _ (C : Contract) (L : ℕ) (rows words : List ℕ) where
       let room = t .room in
       rw (checking-check C L rows words (t .good) (record { atLeast = t .some; atMost = room .few; rows = room .rowRoom; words = room .wordRoom }))
       (subst (λ (D : Contract). Gives (check D L) a rows′ words′) (made .contract) g)
-
--- the masks are those of the contract in the table
-pub covered : {C : Contract} {p : Prepared} {table l r : List ℕ} → Prepares C p table l r → Covered (contractIn p table) l r
-covered {l = l} {r = r} made = subst (λ (D : Contract). Covered D l r) (sym (made .contract)) (made .masks)

@@ -3,3 +3,4 @@ pub mod Replies
 pub mod Calls
 pub mod Refusals
 pub mod MergeReplies
+pub mod ExamineReplies

@@ -1,9 +1,11 @@
 // Goosedawn for C and Rust: the operations as functions with C's calling convention, over any numbers and slices.
 //
 // A slice is a pointer, then a length. What comes back is document 01's answer in four numbers; specs/Replies.antt gives
-// them, and include/goosedawn.h says in plain words what each function does. Merging two output types and the shorter of two examples have
-// modules of their own.
+// them, and include/goosedawn.h says in plain words what each function does. Merging two output types, the shorter of two examples and
+// examining a list of kinds have modules of their own.
+pub mod examine;
 pub mod merge;
+pub mod refusal;
 pub mod shorter;
 
 ghost use mathlib.Core.Path.{_≡_};

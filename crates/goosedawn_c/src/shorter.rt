@@ -4,26 +4,14 @@ ghost use Rattle.model.specs.Shorter.{shorterVerdict};
 ghost use Rattle.reading.specs.Answers.{documentVerdict};
 ghost use Rattle.comparing.specs.Answers.{comparingVerdict, refusalVerdict};
 ghost use Rattle.comparing.specs.Stretches.{asPart, shorterPart};
-ghost use Rattle.goosedawn_c.specs.Refusals.{told, toldOf};
+ghost use Rattle.goosedawn_c.specs.Refusals.{toldOf};
+use crate::refusal::Told;
+use crate::refusal::tell;
 use answers::DocumentFault;
 use comparing::ComparingFault;
 use comparing::Refusal;
 use comparing::shorter;
 use comparing::shorter_refusal;
-
-// A refusal's number and place; both are 0 where nothing is refused.
-#[repr(C)]
-pub struct Told {
-    pub number: usize,
-    pub place: usize,
-}
-
-// A number and a place, as they are told.
-fn tell(number: usize, place: usize) -> Told
-    ensures { λ r. ⌜ r ≡ told number place ⌝ }
-{
-    Told { number, place }
-}
 
 // What is wrong with a buffer, by the number of a tree without end and the number of a fault.
 fn tell_document(endless: usize, faulty: usize, fault: DocumentFault) -> Told

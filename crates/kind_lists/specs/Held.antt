@@ -22,18 +22,8 @@ use Rattle.model.proofs.Laws.Established.{Established}
 use Rattle.breaking.specs.Verdicts.{breaking, VerdictsOf, breaking-is}
 use Rattle.breaking.specs.declared.Verdicts.{Verdicts}
 use Rattle.kind_slots.specs.Stored.{kindIn, sameWords, sameKind, kindPlace, kindListed, withKind}
-use Rattle.kind_slots.proofs.Same.{all-five}
+use Rattle.kind_slots.proofs.Same.{all-five, five}
 use Rattle.kind_lists.specs.Listing.{withRow}
-
--- a list of five is its five numbers
-pub five : (l : List ℕ) → length l ≡ 5 → l ≡ getD l 0 0 ∷ getD l 1 0 ∷ getD l 2 0 ∷ getD l 3 0 ∷ getD l 4 0 ∷ []
-five [] e = absurd (omega arith)
-five (a ∷ []) e = absurd (omega arith)
-five (a ∷ b ∷ []) e = absurd (omega arith)
-five (a ∷ b ∷ c ∷ []) e = absurd (omega arith)
-five (a ∷ b ∷ c ∷ d ∷ []) e = absurd (omega arith)
-five (a ∷ b ∷ c ∷ d ∷ f ∷ []) e = refl
-five (a ∷ b ∷ c ∷ d ∷ f ∷ g ∷ l) e = absurd (omega arith)
 
 -- a sixth number does not change the first five
 pub front : (kind : List ℕ) → length kind ≡ 5 → (w : ℕ) → w < 5 → getD (kind ++ (0 ∷ [])) w 0 ≡ getD kind w 0

@@ -1,12 +1,17 @@
--- Kinds that are the same have the same five words, so the same sums; and a kind that is stored stands in its row, the others stay.
+-- Kinds that are the same have the same five words, so the same sums, and the test of them is that of two lists; kinds in a list of 64-bit
+-- words; and a kind that is stored stands in its row, the others stay.
 use mathlib.Core.Path.{_≡_, refl, _∙_}
 use mathlib.Core.Bool.{Bool, true, false, _&&_}
-use mathlib.Core.List.{List}
-use Prim.Native.Nat.{ℕ, _+_, _*_, _≤_, _<_}
+use mathlib.Core.List.{List, [], _∷_, _++_}
+use Prim.Native.Nat.{ℕ, zero, suc, _+_, _*_, _^_, _≤_, _<_}
 use native.Mathlib.Omega.{arith}
 use borrow.Author.Tests.{eqb-true}
+use lib.Dec.{eqb}
 use lib.ListN.{length, getD, set, length-set}
+use lib.Pow.{pow-pos}
 use lib.Seq.{getD-set-same, getD-set-other}
+use Rattle.foundation.specs.Tests.{_and_, same}
+use Rattle.foundation.specs.Lists.{sameList}
 use Rattle.kind_slots.specs.Stored.{paddedKind, sameWords, withKind}
 use Rattle.kind_slots.specs.Slots.{kindSum, weightedSum}
 
@@ -22,6 +27,42 @@ all-five a b c d e t =
     let r = both (a && b) c (q .0) in
     let s = both a b (r .0) in
     (s .0, s .1, r .1, q .1, p .1)
+
+-- a list of five is its five numbers
+pub five : (l : List ℕ) → length l ≡ 5 → l ≡ getD l 0 0 ∷ getD l 1 0 ∷ getD l 2 0 ∷ getD l 3 0 ∷ getD l 4 0 ∷ []
+five [] e = absurd (omega arith)
+five (a ∷ []) e = absurd (omega arith)
+five (a ∷ b ∷ []) e = absurd (omega arith)
+five (a ∷ b ∷ c ∷ []) e = absurd (omega arith)
+five (a ∷ b ∷ c ∷ d ∷ []) e = absurd (omega arith)
+five (a ∷ b ∷ c ∷ d ∷ f ∷ []) e = refl
+five (a ∷ b ∷ c ∷ d ∷ f ∷ g ∷ l) e = absurd (omega arith)
+
+-- the test of five words is that of two lists of five
+pub same-words-list : (a b : List ℕ) → length a ≡ 5 → length b ≡ 5 → sameWords (a ++ (0 ∷ [])) (b ++ (0 ∷ [])) ≡ sameList a b
+unfolding sameWords sameList same _and_
+same-words-list a b e f = rw (five a e, five b f) (both-ways (at 0) (at 1) (at 2) (at 3) (at 4))
+  where
+    at : ℕ → Bool
+    at w = eqb (getD a w 0) (getD b w 0)
+
+    both-ways : (p q r s t : Bool) → ((((p && q) && r) && s) && t) ≡ (p and (q and (r and (s and (t and true)))))
+    both-ways false q r s t = refl
+    both-ways true false r s t = refl
+    both-ways true true false s t = refl
+    both-ways true true true false t = refl
+    both-ways true true true true false = refl
+    both-ways true true true true true = refl
+
+-- kinds in a list of 64-bit words have such words
+pub padded-small : (words : List ℕ) → ((k : ℕ) → getD words k 0 < 2 ^ 64) → (j k : ℕ) → getD (paddedKind words j) k 0 < 2 ^ 64
+padded-small words h j zero = h (5 * j)
+padded-small words h j (suc zero) = h (5 * j + 1)
+padded-small words h j (suc (suc zero)) = h (5 * j + 2)
+padded-small words h j (suc (suc (suc zero))) = h (5 * j + 3)
+padded-small words h j (suc (suc (suc (suc zero)))) = h (5 * j + 4)
+padded-small words h j (suc (suc (suc (suc (suc zero))))) = pow-pos 64
+padded-small words h j (suc (suc (suc (suc (suc (suc k)))))) = pow-pos 64
 
 -- the five words of two kinds are equal
 pub record Alike (a b : List ℕ) : Type 0 where

@@ -13,3 +13,4 @@ pub mod Documents
 pub mod Rules
 pub mod Shorter
 pub mod Merging
+pub mod Masked

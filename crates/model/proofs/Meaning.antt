@@ -1,6 +1,6 @@
 -- What the answers mean: outputs are those of the published meaning, facts are the states of outputs, a kind says which trees break a
--- contract, a check's answers speak of all trees, refusals say what is wrong and where, of two examples the shorter comes back, and a
--- merged type allows what both types do.
+-- contract, a check's answers speak of all trees, refusals say what is wrong and where, of two examples the shorter comes back, a
+-- merged type allows what both types do, and of a list of kinds that is accepted no tree breaks the contract.
 pub mod Outputs
 pub mod Published
 pub mod Facts
@@ -22,3 +22,5 @@ pub mod Merging
 pub mod MergingAnswers
 pub mod MergeLaw
 pub mod MergedChecks
+pub mod Examining
+pub mod ExaminingAnswers

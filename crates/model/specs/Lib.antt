@@ -1,6 +1,6 @@
 -- Document 01, sentence by sentence. Each definition quotes the words that it stands for. Published has source document 000's
--- meaning; Refusals, Meaning and Demand have the statements that proofs/ proves. Shorter has change request W-207 and Merging W-206,
--- both definitions and statements.
+-- meaning; Refusals, Meaning and Demand have the statements that proofs/ proves. Shorter has change request W-207, Merging W-206 and
+-- Examining W-211, each with definitions and statements.
 pub mod Trees
 pub mod Documents
 pub mod Rows
@@ -23,3 +23,4 @@ pub mod Claims
 pub mod Meaning
 pub mod Demand
 pub mod Merging
+pub mod Examining

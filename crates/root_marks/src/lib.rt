@@ -39,7 +39,7 @@ pub fn marked_empty(states: u64) -> u64
 }
 
 // The mark of one root, or 0 without one. The promise bounds it too, so that it can be added.
-fn root_mark(one_root: bool) -> u64
+pub fn root_mark(one_root: bool) -> u64
     ensures { λ r. ⌜ (r ≡ one-if «one_root» * 2 ^ rootBit) × (r ≤ 2 ^ rootBit) ⌝ }
 {
     if one_root {

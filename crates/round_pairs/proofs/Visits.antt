@@ -1,10 +1,9 @@
 -- What the loops' functions need where they stand: room in the buffers, and what a visit comes to.
 use mathlib.Core.Path.{_≡_, ap₂, subst, _∙_}
 use mathlib.Core.List.{List, [], _∷_, _++_}
-use Prim.Native.Nat.{ℕ, zero, suc, _+_, _*_, _^_, _≤_, _<_}
+use Prim.Native.Nat.{ℕ, suc, _+_, _*_, _^_, _≤_, _<_}
 use native.Mathlib.Omega.{arith}
 use lib.ListN.{length, getD, take}
-use lib.Pow.{pow-pos}
 use Rattle.model.specs.Tables.{Contract}
 use Rattle.model.specs.Kinds.{nextKind}
 use Rattle.model.specs.Rounds.{kindAutomaton, ListedKind, rounds}
@@ -14,6 +13,7 @@ use Rattle.model.proofs.Rounds.Places.{place}
 use Rattle.kind_words.specs.Blocks.{Words}
 use Rattle.breaking.specs.Verdicts.{VerdictsOf}
 use Rattle.breaking.specs.declared.Verdicts.{Verdicts}
+use Rattle.kind_slots.proofs.Same.{padded-small}
 use Rattle.kind_slots.specs.Stored.{paddedKind}
 use Rattle.kind_lists.specs.Listing.{Room, Becomes, offering}
 use Rattle.kind_lists.specs.Outcomes.{Unbroken, Outcome}
@@ -24,16 +24,7 @@ use Rattle.round_pairs.specs.declared.Round.{Round}
 
 -- words read from a buffer of 64-bit words
 pub padded-words : (words : List ℕ) (j : ℕ) (kind : List ℕ) → kind ≡ paddedKind words j → ((k : ℕ) → getD words k 0 < 2 ^ 64) → Words kind
-padded-words words j kind e h k = rw e (go k)
-  where
-    go : (k : ℕ) → getD (paddedKind words j) k 0 < 2 ^ 64
-    go zero = h (5 * j)
-    go (suc zero) = h (5 * j + 1)
-    go (suc (suc zero)) = h (5 * j + 2)
-    go (suc (suc (suc zero))) = h (5 * j + 3)
-    go (suc (suc (suc (suc zero)))) = h (5 * j + 4)
-    go (suc (suc (suc (suc (suc zero))))) = pow-pos 64
-    go (suc (suc (suc (suc (suc (suc k)))))) = pow-pos 64
+padded-words words j kind e h k = rw e (padded-small words h j k)
 
 -- a list that is held leaves room
 pub room-of : {C : Contract} {limit n : ℕ} {slots rows words : List ℕ} (list : List (ListedKind C)) → Unbroken C limit n slots rows words list → Room limit n rows words

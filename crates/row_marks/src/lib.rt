@@ -44,7 +44,7 @@ pub fn next_marked(firsts: &[u16; 512], symbol: Symbol, from: usize, stood: usiz
 }
 
 // What a mask shows of a kind.
-fn shown(mask: &[u64; 6], kind: &[u64; 6]) -> [u64; 6]
+pub fn shown(mask: &[u64; 6], kind: &[u64; 6]) -> [u64; 6]
     ensures { λ r. ⌜ r ≡ shown (now (mask .entry)) (now (kind .entry)) ⌝ }
 {
     [

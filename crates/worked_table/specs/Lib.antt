@@ -1,7 +1,8 @@
--- The worked contracts, the table of questions and answers, pairs of examples and pairs of output types, with the claims that the
--- definitions give just these.
+-- The worked contracts, the table of questions and answers, pairs of examples, pairs of output types and lists of kinds, with the claims
+-- that the definitions give just these.
 pub mod Questions
 pub mod Contracts
 pub mod Table
 pub mod Examples
 pub mod Mergings
+pub mod Examinings

@@ -4,11 +4,11 @@
 use goosedawn::library::Library;
 use goosedawn::model::Model;
 use goosedawn::script::named_by_argument;
-use goosedawn::timing::{one_after_the_other, print_checks};
+use goosedawn::timing::{print_checks, time_checks};
 
 fn main() {
     let script = named_by_argument("bench");
     print_checks(&script, ["proved", "model"], |contract, limit| {
-        one_after_the_other(&Library::default(), &Model, contract, limit)
+        time_checks(&Library::default(), &Model, contract, limit)
     });
 }

@@ -122,10 +122,10 @@ fn running(new: Library, old: Library, contract: &Contract, numbers: &[u16]) -> 
 /// Checks of contracts whose kinds all start at one slot, so that a search passes many.
 fn one_slot(new: Library, old: Library) {
     println!("{:>4} {:>7} {:>6}  {}", "slot", "symbols", "nodes", heads(NAMES));
-    let few = Counters { symbols: 2, rights: 4, lefts: 3, totals: 1, nodes: 4, idle: 1, common: 9 };
-    let many = Counters { rights: 7, lefts: 7, totals: 7, ..few };
+    let few = Counters { symbols: 2, rights: &[4], lefts: &[3], totals: &[1], nodes: 4, idle: 1, common: 9 };
+    let many = Counters { rights: &[7], lefts: &[7], totals: &[7], ..few };
     let longer = Counters { symbols: 4, nodes: 16, ..many };
-    let early = Counters { idle: 10, common: 1, totals: 6, ..many };
+    let early = Counters { idle: 10, common: 1, totals: &[6], ..many };
     for counters in [few, many, longer, early] {
         let Counters { symbols, nodes, .. } = counters;
         let slot = counters.only_slot().expect("one slot");

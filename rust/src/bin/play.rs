@@ -26,6 +26,15 @@ prints its answers. docs/FORMAT.md lists the statements. Beside those of the pro
              merges the contract's output type and the second one, with T numbers lent for the table and M for the marks:
              `merged STATES`, or a refusal; `show` then prints both buffers, `table N ..` and `marks N ..`
 
+    kinds W ..
+             sets the list of kinds, five words each, from 0 to 18446744073709551615
+
+    kinds-of-check
+             that list becomes the kinds that the last check listed, none if it was refused
+
+    examine  examines the list: `accepted` if it holds the kinds of all trees and none that breaks the contract, or a
+             refusal
+
 The status is 0; or 2 if the script has a fault, which the last line names, if it cannot be read or its answers cannot be
 printed, or if there is more than one argument.
 ";

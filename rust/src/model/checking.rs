@@ -1,30 +1,10 @@
 //! Checking a contract: kinds in rounds, until one breaks, the list ends or the limit is passed.
 
+use super::hashing::KindSet;
 use super::kinds::{Kind, Kinds, Parts};
 use super::{admission, Refusal};
 use crate::contract::Contract;
 use crate::engine::Answer;
-use std::collections::HashSet;
-use std::hash::{BuildHasherDefault, Hasher};
-
-/// A quick hash of words: each is added, multiplied and folded.
-#[derive(Default)]
-struct WordHasher(u64);
-
-impl Hasher for WordHasher {
-    fn write(&mut self, bytes: &[u8]) {
-        for word in bytes.chunks(8) {
-            let mut padded = [0; 8];
-            padded[..word.len()].copy_from_slice(word);
-            let mixed = (self.0 ^ u64::from_le_bytes(padded)).wrapping_mul(0x9E37_79B9_7F4A_7C15);
-            self.0 = mixed ^ mixed >> 32;
-        }
-    }
-
-    fn finish(&self) -> u64 {
-        self.0
-    }
-}
 
 /// The kinds listed so far, with their rows.
 struct List<'a> {
@@ -34,7 +14,7 @@ struct List<'a> {
     heights: Vec<usize>,
     words: Vec<Kind>,
     parts: Vec<Parts>,
-    listed: HashSet<Kind, BuildHasherDefault<WordHasher>>,
+    listed: KindSet,
 }
 
 /// Why the listing stops before its end: a kind breaks, or one is left out, of a tree of this height.
@@ -44,6 +24,18 @@ enum Stop {
 }
 
 impl List<'_> {
+    fn new(contract: &Contract, limit: usize) -> List<'_> {
+        List {
+            kinds: Kinds::new(contract),
+            limit,
+            rows: Vec::new(),
+            heights: Vec::new(),
+            words: Vec::new(),
+            parts: Vec::new(),
+            listed: KindSet::default(),
+        }
+    }
+
     /// The height of the tree of a row over listed ones: one more than the greater height of its children.
     fn height(&self, [symbol, left, right]: [u16; 3]) -> usize {
         match symbol {
@@ -110,15 +102,7 @@ pub fn check(contract: &Contract, limit: usize, rows: &mut [u16], words: &mut [u
     if words.len() != 5 * limit {
         return Err((9, 2));
     }
-    let mut list = List {
-        kinds: Kinds::new(contract),
-        limit,
-        rows: Vec::new(),
-        heights: Vec::new(),
-        words: Vec::new(),
-        parts: Vec::new(),
-        listed: HashSet::default(),
-    };
+    let mut list = List::new(contract, limit);
     let ended = list.rounds(contract.symbols);
     rows.fill(0);
     words.fill(0);
@@ -134,4 +118,14 @@ pub fn check(contract: &Contract, limit: usize, rows: &mut [u16], words: &mut [u
         Ok(()) => Answer::Pass { count: list.rows.len() },
         Err(_) => Answer::Tree { row: list.rows.len() - 1 },
     })
+}
+
+/// The first kinds of an admitted contract in the order of a check, at most so many, whether or not they break it.
+pub fn first_kinds(contract: &Contract, most: usize) -> Vec<Kind> {
+    // kinds do not hang on which outputs are allowed; where all are, none breaks
+    let allowing = Contract { output_marks: vec![1; contract.output_states], ..contract.clone() };
+    let mut list = List::new(&allowing, most);
+    // where the rounds stop, the first kinds are listed
+    let _ = list.rounds(contract.symbols);
+    list.words
 }

@@ -4,6 +4,8 @@
 pub mod admission;
 pub mod checking;
 pub mod documents;
+pub mod examining;
+pub mod hashing;
 pub mod kinds;
 pub mod merging;
 pub mod running;
@@ -60,5 +62,9 @@ impl Engine for Model {
         marks: &mut [u16],
     ) -> Result<usize, Refusal> {
         merging::merge(first, second, table, marks)
+    }
+
+    fn examine(&self, contract: &Contract, words: &[u64]) -> Result<(), Refusal> {
+        examining::examine(contract, words)
     }
 }

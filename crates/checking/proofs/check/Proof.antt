@@ -5,8 +5,8 @@ use native.Mathlib.Omega.{arith}
 use Rattle.model.specs.Tables.{Contract, contract}
 use Rattle.answers.specs.Numbers.{admissionAnswer}
 use Rattle.admission.proofs.Answered.{admitted-fine}
-use Rattle.preparing.specs.Packing.{short, room-enough}
-use Rattle.checking.proofs.Answering.{Tested, tested, refused-contract, refused-size, checked, covered}
+use Rattle.preparing.specs.Packing.{covered, short, room-enough}
+use Rattle.checking.proofs.Answering.{Tested, tested, refused-contract, refused-size, checked}
 use borrow.Author.Needs.{needs}
 use Rattle.checking.proofs.check.Statement.{statement}
 use Rattle.checking.proofs.check.Tie as tie

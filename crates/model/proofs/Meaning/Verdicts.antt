@@ -110,7 +110,7 @@ single-for v r exactly =
     clear none (refused number place) e = absurd (none number place (exactly number place .0 e))
 
 -- with one number
-one-for : (v : Verdict) (number : ℕ) (Wrong : ℕ → Type 0) → Only number v → ((place : ℕ) → (v ≡ refused number place) ↔ Wrong place)
+pub one-for : (v : Verdict) (number : ℕ) (Wrong : ℕ → Type 0) → Only number v → ((place : ℕ) → (v ≡ refused number place) ↔ Wrong place)
     → RefusesFor (withNumber number Wrong ∷ []) v
 one-for v number Wrong which exactly =
     single-for v (withNumber number Wrong)

@@ -1,9 +1,12 @@
 -- The place of a symbol over two rows in the order of a round over n rows, and what stands at a place.
 use mathlib.Core.Path.{_≡_}
+use mathlib.Core.Logic.{inl, inr}
 use Prim.Native.Nat.{ℕ, suc, _+_, _*_, _-_, _/_, _%_, _<_, _≤_}
 use native.Mathlib.Nat.{mul-le-mul-right, mod-lt, mul-pos, div-lt-iff-lt-mul, div-add-mod'}
 use native.Mathlib.Omega.{arith}
+use native.Mathlib.Decide.{decLt, ℕ-discrete}
 use lib.Arith.{digits-lt, digits-div, digits-mod, mod-mul}
+use Rattle.model.specs.Examining.{ListedBefore}
 
 -- "symbols 1 to S − 1, left rows, right rows, ascending in that order"
 abbrev pub place : (n symbol left right : ℕ) → ℕ
@@ -65,3 +68,37 @@ earlier-left n s i j k m h hj = let row : suc k * n ≤ i * n = mul-le-mul-right
 
 pub earlier-right : (n s i j m : ℕ) → m < j → place n s i m < place n s i j
 earlier-right n s i j m h = omega arith
+
+-- the order of places is "listing order"
+module _ (n : ℕ) where
+  earlier-symbol : (s i j t k m : ℕ) → 1 ≤ t → t < s → k < n → m < n → place n t k m < place n s i j
+  earlier-symbol s i j t k m one h hk hm =
+      let whole : place n t k m < (suc t - 1) * (n * n) = place-below n t k m hk hm (suc t) one (omega arith) in
+      let same : suc t - 1 ≡ t = omega arith in
+      let most : t * (n * n) ≤ (s - 1) * (n * n) = mul-le-mul-right (n * n) (omega arith) in
+      omega (arith, rw same at whole)
+
+  module _ (s i j t k m : ℕ) (one : 1 ≤ s) (left< : i < n) (right< : j < n) where
+    pub before-place : ListedBefore s i j t k m → place n s i j < place n t k m
+    before-place (inl h) = earlier-symbol t k m s i j one h left< right<
+    before-place (inr (e, inl h)) = rw e (earlier-left n t k m i j h right<)
+    before-place (inr (e, inr (f, h))) = rw (e, f) (earlier-right n t k m j h)
+
+    pub place-before : 1 ≤ t → k < n → m < n → place n s i j < place n t k m → ListedBefore s i j t k m
+    place-before one′ hk hm h = by-symbol (decLt s t) (ℕ-discrete s t)
+      where
+        by-right : s ≡ t → i ≡ k → Dec (j < m) → ListedBefore s i j t k m
+        by-right e f (yes l) = inr (e, inr (f, l))
+        by-right e f (no l) = let less : place n t k j < place n t k m = rw (e, f) at h in absurd (omega arith)
+
+        by-left : s ≡ t → Dec (i < k) → Dec (i ≡ k) → ListedBefore s i j t k m
+        by-left e (yes l) d = inr (e, inl l)
+        by-left e (no l) (yes f) = by-right e f (decLt j m)
+        by-left e (no l) (no f) =
+            let less : place n t i j < place n t k m = rw e at h in
+            absurd (omega (arith, earlier-left n t i j k m (omega arith) hm))
+
+        by-symbol : Dec (s < t) → Dec (s ≡ t) → ListedBefore s i j t k m
+        by-symbol (yes l) d = inl l
+        by-symbol (no l) (yes e) = by-left e (decLt i k) (ℕ-discrete i k)
+        by-symbol (no l) (no e) = absurd (omega (arith, earlier-symbol s i j t k m one′ (omega arith) hk hm))

@@ -1,0 +1,3 @@
+-- What the examiner's answers stand for, their numbers and places.
+pub mod Answers
+pub mod Numbers

@@ -1,0 +1,2 @@
+-- The mask of a contract.
+pub mod Mask

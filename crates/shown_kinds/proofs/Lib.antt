@@ -1,0 +1,3 @@
+-- Laws of chains and of first rows.
+pub mod Latest
+pub mod Firsts
