@@ -14,10 +14,17 @@
  *   input_marks   for each input state 1 if it is accepted, otherwise 0
  *   output_table  the state of symbol 0; then for each symbol from 1, each left state, each right state, a state
  *   output_marks  for each output state 1 if it is accepted, otherwise 0
- *   nodes         (tag, name, child, first, second): tag 0 a parameter, 1 an output symbol, 2 a call on child 1 or 2
- *   rules         (procedure, symbol, node)
+ *   nodes         (tag, name, child, first, second): tag 0 a parameter, 1 an output symbol, 2 a call on child 1 or 2, or
+ *                 with child 0 at the node itself
+ *   rules         (procedure, symbol, node): for a node of that symbol; with the number of symbols for its symbol a stay
+ *                 rule, which is for a node of any symbol, 0 too
  * Sizes: symbols 1 to 16, input states 1 to 32, output states 1 to 4, procedures 1 to 16, at most 512 input rows, 256
  * nodes and 256 rules.
+ *
+ * The calls of a stay rule all have child 0, those of any other rule child 1 or 2, arguments included. The outputs of a
+ * procedure on a tree are those of its rules for the root's symbol and of all its stay rules, and there are no others: a
+ * procedure that only calls itself at the same node has none. A run takes a stay rule only if the procedure has no rule for
+ * the symbol.
  *
  * A document is its symbols in preorder, 1 to 1023 numbers: symbol 0 stands alone, any other has two trees after it.
  * It has one root if it does not begin with symbol 0 and its root's right tree is symbol 0: nothing follows the root.
@@ -79,10 +86,13 @@ typedef struct {
  *      them, in docs/REFUSALS.md)
  *      30  its tag is not 0, 1 or 2
  *      31  its name is, by its tag, no parameter (1 or 2), no symbol or no procedure
- *      32  it is a call, and its child is not 1 or 2
+ *      32  it is a call, and its child is above 2
  *      33  the number of a node that it refers to is not smaller than its own
  *      34  a field that it does not use is not 0
- *   7  a bad rule: the rule
+ *   7  a bad rule: the rule. Its procedure, symbol or node is out of range (symbols go up to that of stay rules), its node
+ *      uses, itself or below, a parameter that the procedure has not, it is for symbol 0 and has a call, for another symbol
+ *      and has a call with child 0, or a stay rule and has a call with child 1 or 2. A node that no rule uses may have calls
+ *      of both sorts
  *   8  over 256 facts: how many there are */
 goosedawn_reply goosedawn_admit(GOOSEDAWN_CONTRACT);
 
@@ -113,19 +123,26 @@ goosedawn_reply goosedawn_judge(GOOSEDAWN_CONTRACT, const uint16_t *numbers, siz
 goosedawn_reply goosedawn_check(GOOSEDAWN_CONTRACT, size_t limit, uint16_t *rows, size_t rows_length, uint64_t *words,
                                 size_t words_length);
 
+/* Bytes of stack that are enough for any run: of a contract without stay rules, and of one with them. A thread with so
+ * much only reserves it; what no run reaches takes no memory. */
+#define GOOSEDAWN_RUN_STACK ((size_t)32 << 20)
+#define GOOSEDAWN_STAY_RUN_STACK ((size_t)128 << 20)
+
 /* Runs a contract's transformation on the document that the numbers begin with, taking for each call the first rule
- * listed. The refusals of goosedawn_admit, then
+ * listed of the procedure for the symbol, and if there is none its first stay rule. The refusals of goosedawn_admit, then
  *   9   the row buffer's length is no multiple of three or above 12288: 0
  *   11, 12  as in judging
  * which write nothing; then, whichever comes first in the order of work, with the row buffer all 0,
- *   13  a procedure has no rule where it is called: the procedure
+ *   13  a procedure has no rule where it is called, and no stay rule: the procedure
  *   14  a row is due and none is free: how many rows there are
- *   15  a call past 65536: 65536
+ *   15  a call past 65536: 65536; of a contract that has a stay rule, taken or not, a call past 4096: 4096
  * Otherwise RAN: the buffer holds rows (symbol, left row, right row), each after its children, and unused rows are 0.
  * The tree of the root row is one of the transformation's outputs on the document.
  *
- * A run nests as deep as the document and the expressions are: the deepest one of all needs about 26 MiB of stack
- * (27119616 bytes were measured), so call this on a thread that has 32 MiB or more unless your contracts are small. */
+ * A run nests as deep as its calls and expressions do, and an evaluation takes 112 bytes of stack. The deepest run of a
+ * contract without stay rules needs about 14 MiB (14667776 bytes were measured); of one with them, whose calls may stay at
+ * a node, about 112 MiB (117456896 bytes: 4096 calls within each other, each with 256 evaluations). So call this on a
+ * thread that has as many bytes of stack as stand above, unless your contracts are small; examples/c/stays.c does so. */
 goosedawn_reply goosedawn_run(GOOSEDAWN_CONTRACT, const uint16_t *numbers, size_t numbers_length, uint16_t *rows,
                               size_t rows_length);
 

@@ -17,8 +17,16 @@ pub struct Contract {
     pub output_marks: Vec<u16>,
     /// (tag, name, child, first, second)
     pub nodes: Vec<u16>,
-    /// (procedure, symbol, node)
+    /// (procedure, symbol, node); a stay rule has the number after the last symbol
     pub rules: Vec<u16>,
+}
+
+/// Where a call goes, by its number in the table: to the node itself, or to one of its children.
+#[derive(Clone, Copy, Debug, PartialEq, Eq)]
+pub enum Child {
+    Here = 0,
+    Left = 1,
+    Right = 2,
 }
 
 /// What an expression node does.
@@ -30,8 +38,8 @@ pub enum Node {
     Empty,
     /// An output symbol over two smaller nodes.
     Symbol(usize, usize, usize),
-    /// A procedure on a child, with the nodes of its arguments.
-    Call { procedure: usize, right: bool, first: usize, second: usize },
+    /// A procedure on a child or on the node itself, with the nodes of its arguments.
+    Call { procedure: usize, child: Child, first: usize, second: usize },
 }
 
 impl Contract {
@@ -67,6 +75,15 @@ impl Contract {
         self.rules.len() / 3
     }
 
+    /// The symbol number of a stay rule, which is for a node of any symbol.
+    pub fn stay(&self) -> usize {
+        self.symbols
+    }
+
+    pub fn has_stay_rules(&self) -> bool {
+        (0..self.rule_count()).any(|rule| self.rule(rule)[1] == self.stay())
+    }
+
     /// A node of an admitted contract.
     pub fn node(&self, node: usize) -> Node {
         let [tag, name, child, first, second] = self.node_numbers(node);
@@ -74,7 +91,10 @@ impl Contract {
             (0, _) => Node::Parameter(name - 1),
             (1, 0) => Node::Empty,
             (1, _) => Node::Symbol(name, first, second),
-            _ => Node::Call { procedure: name, right: child == 2, first, second },
+            _ => {
+                let child = [Child::Here, Child::Left, Child::Right][child];
+                Node::Call { procedure: name, child, first, second }
+            }
         }
     }
 

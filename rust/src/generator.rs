@@ -2,7 +2,7 @@
 
 use crate::contract::{Contract, OutputTables};
 use crate::engine::MOST_KINDS;
-use crate::model::admission::admission;
+use crate::model::admission::{admission, node_uses, uses_of, Uses};
 use crate::model::checking::first_kinds;
 use crate::model::documents::MOST_NUMBERS;
 use crate::model::examining::bits_of_kinds;
@@ -74,9 +74,81 @@ pub fn valid(random: &mut Random, size: Size) -> Contract {
         output_marks: random.list(output_states, 2),
         ..Contract::default()
     };
-    add_nodes(random, &mut contract, nodes);
-    add_rules(random, &mut contract, rules);
+    let stays = Stays::any(random);
+    if stays != Stays::None && random.once_in(3) {
+        add_chain(random, &mut contract);
+    }
+    add_nodes(random, &mut contract, nodes, stays);
+    add_rules(random, &mut contract, rules, stays);
+    if stays != Stays::None && random.once_in(4) {
+        leave_to_itself(random, &mut contract);
+    }
     contract
+}
+
+/// Whether a contract has stay rules, and others.
+#[derive(Clone, Copy, Debug, PartialEq, Eq)]
+enum Stays {
+    None,
+    Some,
+    Only,
+}
+
+impl Stays {
+    fn any(random: &mut Random) -> Stays {
+        match random.below(8) {
+            0..=3 => Stays::None,
+            4..=6 => Stays::Some,
+            _ => Stays::Only,
+        }
+    }
+
+    /// The symbol number of a rule.
+    fn symbol(self, random: &mut Random, contract: &Contract) -> usize {
+        match self {
+            Stays::None => random.below(contract.symbols),
+            Stays::Some => random.below(contract.symbols + 1),
+            Stays::Only => contract.stay(),
+        }
+    }
+
+    /// Where the calls of a node go: mostly to where a rule can use it, seldom to both.
+    fn calls(self, random: &mut Random) -> Calls {
+        match self {
+            _ if random.once_in(24) => Calls::Both,
+            Stays::None if random.once_in(24) => Calls::Stay,
+            Stays::None => Calls::Descend,
+            Stays::Some if random.once_in(2) => Calls::Descend,
+            Stays::Only if random.once_in(8) => Calls::Descend,
+            _ => Calls::Stay,
+        }
+    }
+}
+
+/// Where the calls of an expression go: all to the node itself, all to a child, or to both.
+#[derive(Clone, Copy, Debug, PartialEq, Eq)]
+enum Calls {
+    Stay,
+    Descend,
+    Both,
+}
+
+impl Calls {
+    fn allow(self, uses: Uses) -> bool {
+        match self {
+            Calls::Stay => !uses.descends,
+            Calls::Descend => !uses.stays,
+            Calls::Both => true,
+        }
+    }
+
+    fn child(self, random: &mut Random) -> usize {
+        match self {
+            Calls::Stay => 0,
+            Calls::Descend => random.within(1, 2),
+            Calls::Both => random.within(0, 2),
+        }
+    }
 }
 
 /// How many input states there are, often as many as may be, and their rows; now and then the empty forest reaches all.
@@ -114,75 +186,137 @@ fn counts(random: &mut Random, most: usize, states: usize) -> Vec<u16> {
     counts
 }
 
-/// What a rule may use of a node: the greatest parameter, and whether it holds a call.
-fn uses(contract: &Contract) -> Vec<(usize, bool)> {
-    let mut uses: Vec<(usize, bool)> = Vec::new();
-    for node in 0..contract.node_count() {
-        let [tag, name, _, first, second] = contract.node_numbers(node);
-        let references = match tag {
-            0 => 0,
-            1 => {
-                if name == 0 {
-                    0
-                } else {
-                    2
-                }
-            }
-            _ => contract.count(name),
-        };
-        let below = [first, second].into_iter().take(references).map(|node| uses[node]);
-        let own = if tag == 0 { (name, false) } else { (0, tag == 2) };
-        let joined = below.fold(own, |a, b| (a.0.max(b.0), a.1 || b.1));
-        uses.push(joined);
-    }
-    uses
+/// An earlier node whose calls go where they may.
+fn earlier(random: &mut Random, uses: &[Uses], calls: Calls) -> Option<usize> {
+    let last = random.below(uses.len().max(1));
+    (0..uses.len().min(last + 1)).rev().find(|&node| calls.allow(uses[node]))
 }
 
-fn add_nodes(random: &mut Random, contract: &mut Contract, most: usize) {
-    for node in 0..random.within(1, most) {
-        let smaller = |random: &mut Random| random.below(node.max(1));
-        let fields = match random.below(6) {
-            0 => [0, random.within(1, 2), 0, 0, 0],
-            1 => [1, 0, 0, 0, 0],
-            2 | 3 if node > 0 && contract.symbols > 1 => {
-                [1, random.within(1, contract.symbols - 1), 0, smaller(random), smaller(random)]
+/// The fields of any node; none if no earlier node fits.
+fn any_node(random: &mut Random, contract: &Contract, uses: &[Uses], calls: Calls) -> Option<[usize; 5]> {
+    Some(match random.below(6) {
+        0 => [0, random.within(1, 2), 0, 0, 0],
+        1 => [1, 0, 0, 0, 0],
+        2 | 3 if contract.symbols > 1 => {
+            let symbol = random.within(1, contract.symbols - 1);
+            [1, symbol, 0, earlier(random, uses, calls)?, earlier(random, uses, calls)?]
+        }
+        _ => {
+            let procedure = random.below(contract.procedures());
+            let mut call = [2, procedure, calls.child(random), 0, 0];
+            for argument in call.iter_mut().skip(3).take(contract.count(procedure)) {
+                *argument = earlier(random, uses, calls)?;
             }
-            _ => {
-                let procedure = random.below(contract.procedures());
-                match contract.count(procedure) {
-                    0 => [2, procedure, random.within(1, 2), 0, 0],
-                    1 if node > 0 => [2, procedure, random.within(1, 2), smaller(random), 0],
-                    2 if node > 0 => [2, procedure, random.within(1, 2), smaller(random), smaller(random)],
-                    _ => [1, 0, 0, 0, 0],
-                }
-            }
-        };
-        contract.nodes.extend(fields.map(|field| field as u16));
+            call
+        }
+    })
+}
+
+fn add_node(contract: &mut Contract, fields: [usize; 5]) -> usize {
+    contract.nodes.extend(fields.map(|field| field as u16));
+    contract.node_count() - 1
+}
+
+fn add_rule(contract: &mut Contract, procedure: usize, symbol: usize, node: usize) {
+    contract.rules.extend([procedure, symbol, node].map(|field| field as u16));
+}
+
+/// Adds nodes to those that there are, up to so many in all.
+fn add_nodes(random: &mut Random, contract: &mut Contract, most: usize, stays: Stays) {
+    let mut uses = node_uses(contract);
+    let wanted = random.within(1, most);
+    while uses.is_empty() || uses.len() < wanted {
+        let calls = stays.calls(random);
+        let fields = any_node(random, contract, &uses, calls).unwrap_or([1, 0, 0, 0, 0]);
+        let node = add_node(contract, fields);
+        uses.push(uses_of(contract, &uses, node));
     }
 }
 
-fn add_rules(random: &mut Random, contract: &mut Contract, most: usize) {
-    let uses = uses(contract);
+/// Adds rules to those that there are, up to about so many in all, in any order.
+fn add_rules(random: &mut Random, contract: &mut Contract, most: usize, stays: Stays) {
+    let uses = node_uses(contract);
     let wanted = random.within(0, most);
     for _ in 0..4 * most {
-        if contract.rule_count() == wanted {
+        if contract.rule_count() >= wanted {
             break;
         }
-        let (procedure, symbol, node) =
-            (random.below(contract.procedures()), random.below(contract.symbols), random.below(uses.len()));
-        if uses[node].0 <= contract.count(procedure) && !(symbol == 0 && uses[node].1) {
-            contract.rules.extend([procedure, symbol, node].map(|field| field as u16));
+        let (procedure, node) = (random.below(contract.procedures()), random.below(uses.len()));
+        let symbol = stays.symbol(random, contract);
+        let calls_fit = match symbol {
+            stay if stay == contract.stay() => !uses[node].descends,
+            0 => !uses[node].descends && !uses[node].stays,
+            _ => !uses[node].stays,
+        };
+        if uses[node].parameter <= contract.count(procedure) && calls_fit {
+            add_rule(contract, procedure, symbol, node);
         }
+    }
+    if random.once_in(2) {
+        let mut rules: Vec<[u16; 3]> =
+            contract.rules.chunks(3).map(|rule| rule.try_into().expect("three numbers")).collect();
+        shuffle(random, &mut rules);
+        contract.rules = rules.concat();
     }
 }
 
-/// The contract with one or two faults: a number changed, a table cut or lengthened, a size changed.
+/// Procedures in any order, of which each has a stay rule that calls the next one, now and then under an output symbol, and the
+/// last calls itself or the first under one and has a rule for a symbol: what it gives comes to the first in as many rounds.
+fn add_chain(random: &mut Random, contract: &mut Contract) {
+    let nothing = add_node(contract, [1, 0, 0, 0, 0]);
+    let parameters = [1, 2].map(|parameter| add_node(contract, [0, parameter, 0, 0, 0]));
+    let mut order: Vec<usize> = (0..contract.procedures()).collect();
+    if random.once_in(2) {
+        order.reverse();
+    }
+    let last = order[order.len() - 1];
+    add_rule(contract, last, random.below(contract.symbols), nothing);
+    let back = order[random.below(order.len())];
+    for link in order.windows(2).map(|link| [link[0], link[1]]).chain([[last, back]]) {
+        let [caller, called] = link;
+        let mut call = [2, called, 0, 0, 0];
+        for argument in 0..contract.count(called) {
+            let own = argument < contract.count(caller) && !random.once_in(4);
+            call[3 + argument] = if own { parameters[argument] } else { nothing };
+        }
+        let mut node = add_node(contract, call);
+        if contract.symbols > 1 && (random.once_in(3) || caller == last) {
+            node = add_node(contract, [1, random.within(1, contract.symbols - 1), 0, node, nothing]);
+        }
+        add_rule(contract, caller, contract.stay(), node);
+    }
+}
+
+/// Makes a procedure that only calls itself, at the same node: it has no output.
+fn leave_to_itself(random: &mut Random, contract: &mut Contract) {
+    let procedure = random.below(contract.procedures());
+    let count = contract.count(procedure);
+    if contract.node_count() + count >= 256 {
+        return;
+    }
+    let mut call = [2, procedure, 0, 0, 0];
+    for (argument, field) in call.iter_mut().skip(3).take(count).enumerate() {
+        *field = add_node(contract, [0, argument + 1, 0, 0, 0]);
+    }
+    let node = add_node(contract, call);
+    contract.rules =
+        contract.rules.chunks(3).filter(|rule| usize::from(rule[0]) != procedure).flatten().copied().collect();
+    if contract.rule_count() < 256 {
+        add_rule(contract, procedure, contract.stay(), node);
+    }
+}
+
+/// The contract with one or two faults: a number changed, a table cut or lengthened, a size changed, a call or a rule made to
+/// stay or not to.
 pub fn damaged(random: &mut Random, mut contract: Contract) -> Contract {
     for _ in 0..random.within(1, 2) {
-        match random.below(12) {
+        match random.below(16) {
             0 => contract.symbols = any_size(random, 18),
             1 => contract.input_states = any_size(random, 34),
             2 => contract.output_states = any_size(random, 6),
+            12 | 13 => move_call(random, &mut contract),
+            14 => move_rule(random, &mut contract),
+            15 => mix_calls(random, &mut contract),
             which => {
                 let table = match which {
                     3 | 4 => &mut contract.input_rows,
@@ -198,6 +332,49 @@ pub fn damaged(random: &mut Random, mut contract: Contract) -> Contract {
         }
     }
     contract
+}
+
+/// Gives a call another child: the node itself, the left one, the right one, or none that there is.
+fn move_call(random: &mut Random, contract: &mut Contract) {
+    let calls: Vec<_> = (0..contract.nodes.len() / 5).filter(|node| contract.nodes[5 * node] == 2).collect();
+    if !calls.is_empty() {
+        contract.nodes[5 * calls[random.below(calls.len())] + 2] = random.below(4) as u16;
+    }
+}
+
+/// Gives a rule whose node is a call an argument that goes elsewhere: to the node itself or to a child. Now and then the rule
+/// keeps its node, so that none uses the other.
+fn mix_calls(random: &mut Random, contract: &mut Contract) {
+    if admission(contract).is_err() || contract.node_count() > 254 {
+        return;
+    }
+    let arguments = |rule: usize| match contract.node_numbers(contract.rule(rule)[2]) {
+        [2, procedure, ..] => contract.count(procedure),
+        _ => 0,
+    };
+    let rules: Vec<_> = (0..contract.rule_count()).filter(|&rule| arguments(rule) > 0).collect();
+    if !rules.is_empty() {
+        let rule = rules[random.below(rules.len())];
+        let argument = random.below(arguments(rule));
+        let mut call = contract.node_numbers(contract.rule(rule)[2]);
+        let child = if call[2] == 0 { random.within(1, 2) } else { 0 };
+        call[3 + argument] = add_node(contract, [2, 0, child, 0, 0]);
+        let mixed = add_node(contract, call);
+        if !random.once_in(4) {
+            contract.rules[3 * rule + 2] = mixed as u16;
+        }
+    }
+}
+
+/// Makes a rule one for symbol 0, for any symbol, a stay rule, or one for a number behind that.
+fn move_rule(random: &mut Random, contract: &mut Contract) {
+    let symbols = contract.symbols.min(16);
+    if !contract.rules.is_empty() {
+        let rule = random.below(contract.rules.len().div_ceil(3));
+        if let Some(symbol) = contract.rules.get_mut(3 * rule + 1) {
+            *symbol = [0, random.below(symbols + 2), symbols, symbols + 1][random.below(4)] as u16;
+        }
+    }
 }
 
 fn any_size(random: &mut Random, most: usize) -> usize {
@@ -487,8 +664,8 @@ fn any_kind(random: &mut Random) -> Kind {
     std::array::from_fn(|_| random.draw())
 }
 
-/// Puts the kinds of a list into another order.
-fn shuffle(random: &mut Random, list: &mut [Kind]) {
+/// Puts a list into another order.
+fn shuffle<T>(random: &mut Random, list: &mut [T]) {
     for place in (1..list.len()).rev() {
         list.swap(place, random.below(place + 1));
     }

@@ -9,6 +9,7 @@
 //! * [`generator`]: random contracts, documents, rows, pairs of buffers, pairs of output types and lists of kinds, valid and
 //!   damaged, from a seed.
 //! * [`counters`]: contracts that count, with as many kinds as wanted, or with all of them at one slot.
+//! * [`stays`]: contracts with stay rules, which take many rounds or are written without them too.
 //! * [`trees`]: all trees up to a height, and the heights of those that rows stand for.
 //! * [`comparison`]: two engines asked the same random questions.
 //! * [`timing`]: how long two engines take for the same question.
@@ -21,5 +22,6 @@ pub mod generator;
 pub mod library;
 pub mod model;
 pub mod script;
+pub mod stays;
 pub mod timing;
 pub mod trees;

@@ -7,8 +7,21 @@ use std::mem::MaybeUninit;
 use std::slice;
 use std::thread;
 
-/// What the deepest run needs, and some room: running nests as deep as the document and the expressions are.
+/// What the deepest run of a contract without stay rules needs, and some room: running nests as deep as the document and the
+/// expressions are.
 pub const RUN_STACK: usize = 32 << 20;
+
+/// The same for a contract with a stay rule: its calls may stay where they are, 4,096 of them within each other.
+pub const STAY_RUN_STACK: usize = 128 << 20;
+
+/// What the deepest run of a contract needs, and some room.
+pub fn run_stack(contract: &Contract) -> usize {
+    if contract.has_stay_rules() {
+        STAY_RUN_STACK
+    } else {
+        RUN_STACK
+    }
+}
 
 /// Which answer it is, and its values.
 #[repr(C)]
@@ -222,23 +235,23 @@ extern "C" {
     ) -> Merging;
 }
 
-/// The proved library; runs are made on a thread with a stack of `run_stack` bytes.
+/// The proved library; runs are made on a thread with a stack of `run_stack` bytes, or of what [`run_stack`] tells.
 #[derive(Clone, Copy, Debug)]
 pub struct Library {
     functions: Functions,
-    run_stack: usize,
+    run_stack: Option<usize>,
 }
 
 impl Default for Library {
     fn default() -> Library {
-        Library::with_run_stack(RUN_STACK)
+        Library { functions: PRESENT, run_stack: None }
     }
 }
 
 impl Library {
     /// The present build, with another stack for runs.
     pub fn with_run_stack(run_stack: usize) -> Library {
-        Library { functions: PRESENT, run_stack }
+        Library { functions: PRESENT, run_stack: Some(run_stack) }
     }
 
     /// An older build, which `tests/compare` renames and links beside the present one. How many numbers a document took
@@ -246,7 +259,7 @@ impl Library {
     /// are the present build's: an older one may not have them.
     #[cfg(feature = "compare")]
     pub fn old() -> Library {
-        Library { functions: OLD, run_stack: RUN_STACK }
+        Library { functions: OLD, run_stack: None }
     }
 
     /// A run on the caller's stack, which has to be large enough for it.
@@ -269,9 +282,10 @@ impl Engine for Library {
     }
 
     fn run(&self, contract: &Contract, numbers: &[u16], rows: &mut [u16]) -> Answer {
+        let run_stack = self.run_stack.unwrap_or_else(|| run_stack(contract));
         thread::scope(|scope| {
             let work = || self.run_here(contract, numbers, rows);
-            let thread = thread::Builder::new().stack_size(self.run_stack).spawn_scoped(scope, work);
+            let thread = thread::Builder::new().stack_size(run_stack).spawn_scoped(scope, work);
             thread.expect("a thread").join().expect("an answer")
         })
     }

@@ -300,7 +300,7 @@ fn checked(contract: &Contract) -> (Answer, Vec<u64>) {
 /// "our own passes' counted kinds are accepted"; those of a check that shows a tree are not, nor are all kinds then.
 #[test]
 fn own_kinds() {
-    let mut random = Random::new(31);
+    let mut random = Random::new(33);
     let (mut passes, mut trees, mut most) = (0, 0, 0);
     for turn in 0..4000 {
         let size = if turn % 10 == 0 { Size::Large } else { Size::Small };

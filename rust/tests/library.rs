@@ -145,6 +145,12 @@ fn every_answer() {
 }
 
 #[test]
+fn stay_rules() {
+    let script = include_bytes!("../../examples/stay-rules.script");
+    assert_eq!(play(&Library::default(), script).said, include_str!("../../examples/stay-rules.answers"));
+}
+
+#[test]
 fn sizes_and_row_numbers_of_every_width() {
     let library = Library::default();
     for size in [17, 65_536, 1 << 32, (1 << 32) + 1, usize::MAX] {

@@ -6,6 +6,7 @@ use goosedawn::engine::{missing, Answer, Engine};
 use goosedawn::generator::{
     contract, damaged, document, list, merging, numbers, pair, valid, Merging, Pair, Random, Size,
 };
+use goosedawn::model::admission::node_uses;
 use goosedawn::model::documents::{leading_document, right_children};
 use goosedawn::model::examining::bits_of_kinds;
 use goosedawn::model::kinds::{Kind, Kinds, EMPTY, ONE_ROOT};
@@ -151,6 +152,170 @@ fn contracts_meet_every_case() {
     let made: Vec<_> = (0..6000).filter_map(|_| Checked::new(contract(&mut random))).collect();
     for (name, case) in cases {
         let met = made.iter().filter(|checked| case(checked)).count();
+        println!("{name}: {met}");
+        assert!(met >= 10, "{name}");
+    }
+}
+
+/// The contract without its stay rules.
+fn without_stays(contract: &Contract) -> Contract {
+    let rules = contract.rules.chunks(3).filter(|rule| usize::from(rule[1]) != contract.stay());
+    Contract { rules: rules.flatten().copied().collect(), ..contract.clone() }
+}
+
+/// The kind of a document as the rules for its root make it, before its stay rules.
+fn before_stays(contract: &Contract, document: &[u16]) -> Kind {
+    let (kinds, without) = (Kinds::new(contract), without_stays(contract));
+    let without = Kinds::new(&without);
+    if document[0] == 0 {
+        return without.empty();
+    }
+    let right = right_children(document)[0];
+    let children = [&document[1..right], &document[right..]].map(|child| kinds.parts(&kinds.document(child)));
+    without.kind(usize::from(document[0]), &children[0], &children[1])
+}
+
+/// How many rounds of the stay rules add a fact at the root of a document.
+fn rounds(contract: &Contract, document: &[u16]) -> usize {
+    let kinds = Kinds::new(contract);
+    let mut listed = vec![before_stays(contract, document)];
+    while listed.last() != Some(&kinds.document(document)) {
+        listed.push(kinds.stay_round(listed.last().expect("a kind")));
+    }
+    listed.len() - 1
+}
+
+fn is_admitted(contract: &Contract) -> bool {
+    Model.admit(contract) == Answer::Admitted
+}
+
+/// Whether the contract is refused by 7 at a rule whose node is a call, and this holds of its symbol and the call's child.
+fn bad_rule(contract: &Contract, holds: fn(&Contract, usize, usize) -> bool) -> bool {
+    let Answer::Refused { number: 7, place } = Model.admit(contract) else { return false };
+    let [procedure, symbol, node] = contract.rule(place);
+    if procedure >= contract.procedures() || node >= contract.node_count() {
+        return false;
+    }
+    let [tag, _, child, ..] = contract.node_numbers(node);
+    tag == 2 && holds(contract, symbol, child)
+}
+
+/// Whether all rules of a procedure are stay rules that call it, with at least one.
+fn only_calls_itself(contract: &Contract, procedure: usize) -> bool {
+    let rules: Vec<_> =
+        (0..contract.rule_count()).map(|rule| contract.rule(rule)).filter(|rule| rule[0] == procedure).collect();
+    let itself = |node| contract.node_numbers(node)[..3] == [2, procedure, 0];
+    !rules.is_empty() && rules.iter().all(|&[_, symbol, node]| symbol == contract.stay() && itself(node))
+}
+
+/// Whether some stay rule is a call with an argument that is a call.
+fn call_in_a_call(contract: &Contract) -> bool {
+    (0..contract.rule_count()).map(|rule| contract.rule(rule)).any(|[_, symbol, node]| {
+        let [tag, name, _, first, _] = contract.node_numbers(node);
+        symbol == contract.stay() && tag == 2 && contract.count(name) > 0 && contract.node_numbers(first)[0] == 2
+    })
+}
+
+/// Whether a contract with stay rules, or without, is such a case.
+type StayCase = fn(&Contract) -> bool;
+
+#[test]
+fn stay_rules_meet_every_case() {
+    let cases: [(&str, StayCase); 15] = [
+        ("no stay rule", |c| is_admitted(c) && !c.has_stay_rules()),
+        ("no stay rule, but a call that stays in a node that no rule uses", |c| {
+            is_admitted(c) && !c.has_stay_rules() && node_uses(c).iter().any(|uses| uses.stays)
+        }),
+        ("stay rules and others", |c| is_admitted(c) && c.has_stay_rules() && !without_stays(c).rules.is_empty()),
+        ("stay rules alone", |c| is_admitted(c) && c.has_stay_rules() && without_stays(c).rules.is_empty()),
+        ("a node of both sorts of calls that no rule uses", |c| {
+            is_admitted(c) && c.has_stay_rules() && node_uses(c).iter().any(|uses| uses.stays && uses.descends)
+        }),
+        ("an argument that is a call", |c| is_admitted(c) && call_in_a_call(c)),
+        ("a procedure that only calls itself", |c| {
+            is_admitted(c) && (0..c.procedures()).any(|procedure| only_calls_itself(c, procedure))
+        }),
+        ("facts of the empty forest by stay rules alone", |c| {
+            is_admitted(c) && before_stays(c, &[0])[1..] == [0; 4] && rounds(c, &[0]) > 0
+        }),
+        ("three rounds or more at the empty forest", |c| is_admitted(c) && rounds(c, &[0]) >= 3),
+        ("five rounds or more at a symbol", |c| is_admitted(c) && c.symbols > 1 && rounds(c, &[1, 0, 0]) >= 5),
+        ("7, a symbol's rule whose call stays", |c| bad_rule(c, |c, symbol, child| symbol < c.stay() && child == 0)),
+        ("7, a symbol's rule that stays in an argument alone", |c| {
+            bad_rule(c, |c, symbol, child| symbol < c.stay() && symbol > 0 && child > 0)
+        }),
+        ("7, a stay rule that descends in an argument alone", |c| {
+            bad_rule(c, |c, symbol, child| symbol == c.stay() && child == 0)
+        }),
+        ("7, a number behind the stay rules'", |c| bad_rule(c, |c, symbol, _| symbol == c.stay() + 1)),
+        ("32", |c| matches!(Model.admit(c), Answer::Refused { number: 32, .. })),
+    ];
+    let mut random = Random::new(12);
+    let made: Vec<_> = (0..12_000).map(|_| contract(&mut random)).collect();
+    for (name, case) in cases {
+        let met = made.iter().filter(|contract| case(contract)).count();
+        println!("{name}: {met}");
+        assert!(met >= 10, "{name}");
+    }
+}
+
+/// A contract with stay rules, a document, and what a run answers.
+struct Run {
+    contract: Contract,
+    document: Vec<u16>,
+    answer: Answer,
+}
+
+impl Run {
+    fn new(random: &mut Random) -> Option<Run> {
+        let contract = valid(random, Size::Small);
+        let size = random.within(0, 8);
+        let document = document(random, contract.symbols, size);
+        let answer = Model.run(&contract, &document, &mut vec![0; 3 * 4096]);
+        contract.has_stay_rules().then_some(Run { contract, document, answer })
+    }
+
+    /// What a run answers by other rules for the same document.
+    fn by(&self, other: fn(&Contract) -> Contract) -> Answer {
+        Model.run(&other(&self.contract), &self.document, &mut vec![0; 3 * 4096])
+    }
+
+    fn is_refused(&self, due: u64) -> bool {
+        matches!(self.answer, Answer::Refused { number, .. } if number == due)
+    }
+}
+
+/// The contract without the rules for symbols of the procedures that have a stay rule.
+fn stays_first(contract: &Contract) -> Contract {
+    let stay = |rule: &[u16]| usize::from(rule[1]) == contract.stay();
+    let stays = |rule: &[u16]| contract.rules.chunks(3).any(|other| other[0] == rule[0] && stay(other));
+    let rules = contract.rules.chunks(3).filter(|rule| stay(rule) || !stays(rule));
+    Contract { rules: rules.flatten().copied().collect(), ..contract.clone() }
+}
+
+/// Whether a run with stay rules is such a case.
+type RunCase = fn(&Run) -> bool;
+
+#[test]
+fn runs_with_stay_rules_meet_every_case() {
+    let cases: [(&str, RunCase); 6] = [
+        ("an output by a stay rule", |run| {
+            matches!(run.answer, Answer::Run { .. }) && run.by(without_stays) != run.answer
+        }),
+        ("an output by a symbol's rule before a stay rule", |run| {
+            matches!(run.answer, Answer::Run { .. }) && run.by(stays_first) != run.answer
+        }),
+        ("13 in spite of stay rules", |run| run.is_refused(13)),
+        ("14", |run| run.is_refused(14)),
+        ("15", |run| run.answer == Answer::Refused { number: 15, place: 4096 }),
+        ("15, and none without the stay rules", |run| {
+            run.is_refused(15) && matches!(run.by(without_stays), Answer::Refused { number: 13, .. })
+        }),
+    ];
+    let mut random = Random::new(13);
+    let made: Vec<_> = (0..12_000).filter_map(|_| Run::new(&mut random)).collect();
+    for (name, case) in cases {
+        let met = made.iter().filter(|run| case(run)).count();
         println!("{name}: {met}");
         assert!(met >= 10, "{name}");
     }
@@ -462,6 +627,12 @@ enum Wrong {
     AnyBits,
     /// A breaking kind is told before a list that is not closed.
     BreakingFirst,
+    /// The stay rules are gone through once at a document's root.
+    OneRound,
+    /// A run takes a stay rule before one for the symbol.
+    StaysFirst,
+    /// With stay rules too a run may make 65,536 calls.
+    ManyCalls,
 }
 
 impl Wrong {
@@ -496,6 +667,13 @@ impl Engine for Wrong {
             {
                 Answer::Judged { result: 2, taken }
             }
+            (Wrong::OneRound, Answer::Judged { taken, .. }) => {
+                let kinds = Kinds::new(contract);
+                let round = kinds.stay_round(&before_stays(contract, &numbers[..taken]));
+                kind.copy_from_slice(&round);
+                let result = u64::from(kinds.takes(&round)) + u64::from(kinds.breaks(&round));
+                Answer::Judged { result, taken }
+            }
             _ => answer,
         }
     }
@@ -517,7 +695,14 @@ impl Engine for Wrong {
         }
     }
     fn run(&self, contract: &Contract, numbers: &[u16], rows: &mut [u16]) -> Answer {
-        Model.run(contract, numbers, rows)
+        match self {
+            Wrong::StaysFirst if is_admitted(contract) => Model.run(&stays_first(contract), numbers, rows),
+            Wrong::ManyCalls => match Model.run(contract, numbers, rows) {
+                Answer::Refused { number: 15, .. } => Answer::Refused { number: 15, place: 65_536 },
+                answer => answer,
+            },
+            _ => Model.run(contract, numbers, rows),
+        }
     }
     fn write_out(&self, rows: &[u16], row: usize, buffer: &mut [u16]) -> Answer {
         Model.write_out(rows, row, buffer)
@@ -567,6 +752,9 @@ fn a_wrong_engine_is_noticed() {
         (Wrong::EmptyFirst, "examine "),
         (Wrong::AnyBits, "examine "),
         (Wrong::BreakingFirst, "examine "),
+        (Wrong::OneRound, "judge "),
+        (Wrong::StaysFirst, "run "),
+        (Wrong::ManyCalls, "run "),
     ];
     for (wrong, question) in wrong_engines {
         let difference = compare(&Model, &wrong, 11, 500).expect_err("a difference");

@@ -1,5 +1,5 @@
-//! The worked example, the script of every answer, the numbers taken, the shorter of two documents, two output types merged,
-//! lists of kinds examined, and what a script with a fault prints.
+//! The worked example, the scripts of every answer and of stay rules, the numbers taken, the shorter of two documents, two
+//! output types merged, lists of kinds examined, and what a script with a fault prints.
 
 use goosedawn::model::Model;
 use goosedawn::script::{play, Played, HELP, MOST_BYTES};
@@ -14,6 +14,12 @@ fn worked_example() {
 fn every_answer() {
     let script = include_bytes!("../../examples/answers.script");
     assert_eq!(play(&Model, script).said, include_str!("../../examples/answers.answers"));
+}
+
+#[test]
+fn stay_rules() {
+    let script = include_bytes!("../../examples/stay-rules.script");
+    assert_eq!(play(&Model, script).said, include_str!("../../examples/stay-rules.answers"));
 }
 
 fn says(script: &str, said: &str) {

@@ -28,11 +28,11 @@ fn name_wrong(symbols: usize, counts: &[u16], node: Node) -> bool
     procedure_wrong(counts.len(), Procedure(node.name))
 }
 
-// A call's child is not 1 (left) or 2 (right).
+// A call's child is not 0 (the node itself), 1 (left) or 2 (right).
 fn child_wrong(node: Node) -> bool
     ensures { λ r. ⌜ r ≡ childWrong (nodeOf node) ⌝ }
 {
-    (node.tag == 2) & ((node.child < 1) | (2 < node.child))
+    (node.tag == 2) & (2 < node.child)
 }
 
 // Node k refers to a node that is not smaller.

@@ -1,13 +1,14 @@
 // Refusal 7: rules.
+use crate::uses::MOVING;
+use crate::uses::STAYING;
 use crate::uses::fill_calls;
 use crate::uses::fill_greatest;
-use admission_tables::reading::test_at;
 use tables::Rule;
+use tables::Symbol;
 use tables::count_of;
 use tables::number_at;
 use tables::procedure_wrong;
 use tables::rule_at;
-use tables::symbol_wrong;
 ghost use mathlib.Core.Path.{_≡_};
 ghost use Prim.Native.Nat.{_≤_};
 ghost use lib.ListN.{length};
@@ -16,7 +17,21 @@ ghost use Rattle.model.specs.Tables.{nodeCount, ruleAt, ruleCount};
 ghost use Rattle.model.specs.Admission.{ruleWrong};
 ghost use Rattle.model.proofs.Laws.Established.{GoodNodes};
 ghost use Rattle.tables.specs.Tuples.{ruleOf};
-ghost use Rattle.admission_expressions.specs.Uses.{GreatestKnown, CallsKnown};
+ghost use Rattle.admission_expressions.specs.Uses.{callsWrongBy, GreatestKnown, CallsKnown};
+
+// A rule's node holds a call that a rule of its symbol must not: any for symbol 0, one that goes to a child for a stay rule, one that
+// stays at the node for other symbols.
+fn calls_wrong(symbols: usize, symbol: Symbol, calls: u16) -> bool
+    ensures { λ r. ⌜ r ≡ callsWrongBy symbols (symbol .0) calls ⌝ }
+{
+    if symbol.0 == 0 {
+        return calls != 0;
+    }
+    if symbol.0 as usize == symbols {
+        return calls & MOVING != 0;
+    }
+    calls & STAYING != 0
+}
 
 // What a rule names does not exist, or its node uses what it must not.
 fn rule_wrong(
@@ -24,7 +39,7 @@ fn rule_wrong(
     counts: &[u16],
     nodes: &[u16],
     greatest: &[u16],
-    calls: &[bool],
+    calls: &[u16],
     rule: Rule,
 ) -> bool
     requires { ⌜ GreatestKnown (now counts) (now nodes) (nodeCount (now nodes)) (now greatest) ⌝ }
@@ -33,10 +48,10 @@ fn rule_wrong(
 {
     let node = rule.node as usize;
     procedure_wrong(counts.len(), rule.procedure)
-        | symbol_wrong(symbols, rule.symbol)
+        | (symbols < rule.symbol.0 as usize)
         | (nodes.len() / 5 <= node)
         | (count_of(counts, rule.procedure) < number_at(greatest, node))
-        | ((rule.symbol.0 == 0) & test_at(calls, node))
+        | calls_wrong(symbols, rule.symbol, number_at(calls, node))
 }
 
 // The first bad rule, or how many there are, by the tables of what the nodes use.
@@ -45,7 +60,7 @@ fn first_by_tables(
     counts: &[u16],
     nodes: &[u16],
     greatest: &[u16],
-    calls: &[bool],
+    calls: &[u16],
     rules: &[u16],
 ) -> usize
     requires { ⌜ GreatestKnown (now counts) (now nodes) (nodeCount (now nodes)) (now greatest) ⌝ }
@@ -70,7 +85,7 @@ fn first_with_room(
     counts: &[u16],
     nodes: &[u16],
     greatest: &mut [u16],
-    calls: &mut [bool],
+    calls: &mut [u16],
     rules: &[u16],
 ) -> usize
     requires { ⌜ GoodNodes (now counts) (now nodes) × (nodeCount (now nodes) ≤ length (now greatest)) × (nodeCount (now nodes) ≤ length (now calls)) ⌝ }
@@ -90,10 +105,10 @@ pub fn first_bad_rule(symbols: usize, counts: &[u16], nodes: &[u16], rules: &[u1
 {
     if nodes.len() <= 80 {
         let mut greatest = [0u16; 16];
-        let mut calls = [false; 16];
+        let mut calls = [0u16; 16];
         return first_with_room(symbols, counts, nodes, &mut greatest, &mut calls, rules);
     }
     let mut greatest = [0u16; 256];
-    let mut calls = [false; 256];
+    let mut calls = [0u16; 256];
     first_with_room(symbols, counts, nodes, &mut greatest, &mut calls, rules)
 }

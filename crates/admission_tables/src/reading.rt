@@ -5,7 +5,7 @@ ghost use lib.ListN.{length, getD};
 ghost use Rattle.foundation.specs.Search.{first};
 
 // The test at a place of a table, false past its end.
-pub fn test_at(tests: &[bool], k: usize) -> bool
+fn test_at(tests: &[bool], k: usize) -> bool
     ensures { λ r. ⌜ r ≡ getD (now (tests .entry)) k false ⌝ }
 {
     if k < tests.len() {

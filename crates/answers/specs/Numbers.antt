@@ -1,7 +1,6 @@
 -- "For an answer that is an enum, a definition gives this paper's number and values for each case."
 use Prim.Native.Nat.{ℕ}
 use Rattle.model.specs.Answers.{Answer, refusal, stopped, admitted, judged, pass, tree, ran, written}
-use Rattle.model.specs.Running.{mostCalls}
 use Rattle.answers.specs.declared.NodeFault.{NodeFault}
 use Rattle.answers.specs.declared.NodeFault.the-variants as node
 use Rattle.answers.specs.declared.ContractFault.{ContractFault}
@@ -77,7 +76,7 @@ runningAnswer running.Buffer = refusal 9 0
 runningAnswer (running.Document fault) = documentRefusal fault
 runningAnswer (running.NoRule procedure) = refusal 13 (procedure .0)
 runningAnswer (running.NoRow rows) = refusal 14 rows
-runningAnswer running.TooManyCalls = refusal 15 mostCalls
+runningAnswer (running.TooManyCalls most) = refusal 15 most
 runningAnswer (running.Ran root used taken) = ran root used taken
 
 abbrev pub writingAnswer : WritingAnswer → Answer

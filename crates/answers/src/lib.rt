@@ -95,8 +95,8 @@ pub enum RunningAnswer {
     NoRule(Procedure),
     // No row is free: how many there are.
     NoRow(usize),
-    // More calls than are made.
-    TooManyCalls,
+    // A call past the last that is made: how many are made.
+    TooManyCalls(usize),
     // The root row, how many rows are used, and how many numbers the document took.
     Ran(usize, usize, usize),
 }

@@ -115,7 +115,7 @@ pub fn of_running(answer: RunningAnswer) -> Answer
         RunningAnswer::Document(fault) => of_document(fault),
         RunningAnswer::NoRule(procedure) => Answer::Refused(13, procedure.0 as usize),
         RunningAnswer::NoRow(rows) => Answer::Refused(14, rows),
-        RunningAnswer::TooManyCalls => Answer::Refused(15, 65536),
+        RunningAnswer::TooManyCalls(most) => Answer::Refused(15, most),
         RunningAnswer::Ran(root, used, taken) => Answer::Ran(root, used, taken),
     }
 }

@@ -6,12 +6,12 @@ use native.Mathlib.Omega.{arith}
 use native.Mathlib.Decide.{ℕ-discrete}
 use lib.ListN.{length, getD, set, length-set}
 use lib.Seq.{getD-set-same, getD-set-other}
-use Rattle.kind_words.specs.Sizes.{mostSymbols}
+use Rattle.kind_words.specs.Sizes.{ruleSymbols}
 use Rattle.kind_words.specs.Chains.{Chained, chained-none, chained-more, length-linked}
 
 -- place j names no first number of a symbol
 abbrev NotFirst : (firsts j : ℕ) → Type 0
-NotFirst firsts j = (s : ℕ) → s < mostSymbols → j ≡ firsts + s → ⊥
+NotFirst firsts j = (s : ℕ) → s < ruleSymbols → j ≡ firsts + s → ⊥
 
 -- the first number of the symbols below s is n
 pub record Emptied (firsts n s : ℕ) (before table : List ℕ) : Type 0 where
@@ -23,7 +23,7 @@ pub emptied-none : (firsts n : ℕ) (table : List ℕ) → Emptied firsts n 0 ta
 emptied-none firsts n table = record { long = refl; first = λ t l. absurd (omega arith); kept = λ j h. refl }
 
 -- one symbol more
-pub emptied-more : (firsts n s : ℕ) (before table : List ℕ) (entry : ℕ) → Emptied firsts n s before table → firsts + mostSymbols ≤ length before → s < mostSymbols → entry ≡ n
+pub emptied-more : (firsts n s : ℕ) (before table : List ℕ) (entry : ℕ) → Emptied firsts n s before table → firsts + ruleSymbols ≤ length before → s < ruleSymbols → entry ≡ n
     → Emptied firsts n (s + 1) before (set table (firsts + s) entry)
 emptied-more firsts n s before table entry h room small e =
     record {
@@ -48,16 +48,16 @@ module _ (symbolOf : ℕ → ℕ) (n firsts nexts : ℕ) where
     pub chained : Chained symbolOf n firsts nexts from table
     pub kept : (j : ℕ) → Apart j → getD table j 0 ≡ getD before j 0
 
-  pub chaining-none : (before table : List ℕ) → Emptied firsts n mostSymbols before table → Chaining n table table
+  pub chaining-none : (before table : List ℕ) → Emptied firsts n ruleSymbols before table → Chaining n table table
   chaining-none before table h = record { long = refl; chained = chained-none symbolOf n firsts nexts table (h .first); kept = λ j ne. refl }
 
   -- all numbers, from the table before it was emptied
-  pub chaining-all : (before start table : List ℕ) → Emptied firsts n mostSymbols before start → Chaining 0 start table → Chaining 0 before table
+  pub chaining-all : (before start table : List ℕ) → Emptied firsts n ruleSymbols before start → Chaining 0 start table → Chaining 0 before table
   chaining-all before start table e h =
       record { long = h .long ∙ e .long; chained = h .chained; kept = λ j ne. h .kept j ne ∙ e .kept j (ne .notFirst) }
 
   -- one number more
-  pub chaining-more : (r t : ℕ) (before table next : List ℕ) → Chaining (r + 1) before table → r < n → symbolOf r ≡ t → t < mostSymbols → firsts + mostSymbols ≤ nexts
+  pub chaining-more : (r t : ℕ) (before table next : List ℕ) → Chaining (r + 1) before table → r < n → symbolOf r ≡ t → t < ruleSymbols → firsts + ruleSymbols ≤ nexts
       → nexts + n ≤ length before
       → next ≡ set (set table (nexts + r) (getD table (firsts + t) 0)) (firsts + t) r
       → Chaining r before next

@@ -2,15 +2,16 @@
 // chains: the table names the first of each symbol, and after each one the next of its symbol.
 ghost use mathlib.Core.Path.{_≡_};
 ghost use Prim.Native.Nat.{ℕ, _+_, _<_, _≤_};
+ghost use lib.Dec.{ltb};
 ghost use lib.ListN.{length, getD, set};
 ghost use Rattle.model.specs.Tables.{inputRow, inputRowCount, ruleAt, ruleCount};
-ghost use Rattle.kind_words.specs.Sizes.{mostSymbols, mostRows, mostRules, firstRules, firstRows, nextRules, nextRows};
+ghost use Rattle.kind_words.specs.Sizes.{ruleSymbols, mostRows, mostRules, firstRules, firstRows, nextRules, nextRows};
 ghost use Rattle.kind_words.specs.Kind.{listOf, withList, ListInside};
 ghost use Rattle.chains.specs.Chaining.{Emptied, Chaining};
 use lanes::INPUT_ROWS;
 use lanes::NODES;
+use lanes::RULE_SYMBOLS;
 use lanes::RULES;
-use lanes::SYMBOLS;
 use lanes::entry_of;
 use lanes::place;
 use lanes::place_at;
@@ -18,23 +19,23 @@ use tables::Symbol;
 use tables::input_row_at;
 use tables::rule_at;
 
-// The table begins with four numbers for each symbol: where the list of the nodes that its rules reach starts, how many they
+// The table begins with four numbers for each symbol that rules may have: where the list of the nodes that its rules reach starts, how many they
 // are, its first rule, and its first input row. Then it has after each rule the next one of its symbol, the same for input
 // rows, and the nodes.
-const LIST_LENGTHS: usize = SYMBOLS;
+const LIST_LENGTHS: usize = RULE_SYMBOLS;
 
-const FIRST_RULES: usize = 2 * SYMBOLS;
+const FIRST_RULES: usize = 2 * RULE_SYMBOLS;
 
-const FIRST_ROWS: usize = 3 * SYMBOLS;
+const FIRST_ROWS: usize = 3 * RULE_SYMBOLS;
 
-const NEXT_RULES: usize = 4 * SYMBOLS;
+const NEXT_RULES: usize = 4 * RULE_SYMBOLS;
 
 // How many numbers it takes for the largest contract.
-pub const LISTS: usize = NEXT_RULES + RULES + INPUT_ROWS + SYMBOLS * NODES;
+pub const LISTS: usize = NEXT_RULES + RULES + INPUT_ROWS + RULE_SYMBOLS * NODES;
 
 // The list of the symbol: the nodes that its rules reach.
 pub fn list_of(lists: &[u16], symbol: Symbol) -> &[u16]
-    requires { ⌜ (symbol .0 < mostSymbols) × (nextRules ≤ length (now lists)) × ListInside (now lists) (symbol .0) ⌝ }
+    requires { ⌜ (symbol .0 < ruleSymbols) × (nextRules ≤ length (now lists)) × ListInside (now lists) (symbol .0) ⌝ }
     ensures { λ r. ⌜ now r ≡ listOf (now (lists .entry)) (symbol .0) ⌝ }
 {
     let start = place_at(lists, symbol.0 as usize);
@@ -44,7 +45,7 @@ pub fn list_of(lists: &[u16], symbol: Symbol) -> &[u16]
 
 // Keeps where the list of the symbol starts and how long it is.
 pub fn store_list(lists: &mut [u16], symbol: Symbol, start: usize, count: usize)
-    requires { ⌜ (symbol .0 < mostSymbols) × (nextRules ≤ length (now lists)) × (start < 65536) × (count < 65536) ⌝ }
+    requires { ⌜ (symbol .0 < ruleSymbols) × (nextRules ≤ length (now lists)) × (start < 65536) × (count < 65536) ⌝ }
     ensures { λ _. ⌜ now (lists .exit) ≡ withList (now (lists .entry)) (symbol .0) start count ⌝ }
 {
     let s = place(symbol.0);
@@ -54,10 +55,18 @@ pub fn store_list(lists: &mut [u16], symbol: Symbol, start: usize, count: usize)
 
 // The first rule of the symbol.
 pub fn first_rule(lists: &[u16], symbol: Symbol) -> usize
-    requires { ⌜ (symbol .0 < mostSymbols) × (nextRules ≤ length (now lists)) ⌝ }
+    requires { ⌜ (symbol .0 < ruleSymbols) × (nextRules ≤ length (now lists)) ⌝ }
     ensures { λ r. ⌜ r ≡ getD (now (lists .entry)) (firstRules + symbol .0) 0 ⌝ }
 {
     place_at(lists, FIRST_RULES + symbol.0 as usize)
+}
+
+// Whether there is a rule for the symbol.
+pub fn has_rules(rules: &[u16], lists: &[u16], symbol: Symbol) -> bool
+    requires { ⌜ (symbol .0 < ruleSymbols) × (nextRules ≤ length (now lists)) ⌝ }
+    ensures { λ r. ⌜ r ≡ ltb (getD (now (lists .entry)) (firstRules + symbol .0) 0) (ruleCount (now (rules .entry))) ⌝ }
+{
+    first_rule(lists, symbol) < rules.len() / 3
 }
 
 // The rule after rule r in its chain.
@@ -70,7 +79,7 @@ pub fn rule_after(lists: &[u16], r: usize) -> usize
 
 // The first input row of the symbol.
 pub fn first_row(lists: &[u16], symbol: Symbol) -> usize
-    requires { ⌜ (symbol .0 < mostSymbols) × (nextRules ≤ length (now lists)) ⌝ }
+    requires { ⌜ (symbol .0 < ruleSymbols) × (nextRules ≤ length (now lists)) ⌝ }
     ensures { λ r. ⌜ r ≡ getD (now (lists .entry)) (firstRows + symbol .0) 0 ⌝ }
 {
     place_at(lists, FIRST_ROWS + symbol.0 as usize)
@@ -93,12 +102,12 @@ pub fn rows_from(rules: &[u16]) -> usize
 
 // Chains of no numbers below n: the first of each symbol is n.
 fn no_numbers(lists: &mut [u16], firsts: usize, n: usize)
-    requires { ⌜ (firsts + mostSymbols ≤ length (now lists)) × (n ≤ mostRows) ⌝ }
-    ensures { λ _. ⌜ Emptied firsts n mostSymbols (now (lists .entry)) (now (lists .exit)) ⌝ }
+    requires { ⌜ (firsts + ruleSymbols ≤ length (now lists)) × (n ≤ mostRows) ⌝ }
+    ensures { λ _. ⌜ Emptied firsts n ruleSymbols (now (lists .entry)) (now (lists .exit)) ⌝ }
 {
     let entry = entry_of(n);
     let mut s: usize = 0;
-    while s < SYMBOLS {
+    while s < RULE_SYMBOLS {
         lists[firsts + s] = entry;
         s += 1;
     }
@@ -106,7 +115,7 @@ fn no_numbers(lists: &mut [u16], firsts: usize, n: usize)
 
 // Puts number r before the first of its symbol.
 fn link(lists: &mut [u16], firsts: usize, nexts: usize, symbol: Symbol, r: usize)
-    requires { ⌜ (firsts + mostSymbols ≤ length (now lists)) × (nexts + r < length (now lists)) × (symbol .0 < mostSymbols) × (r ≤ mostRows) ⌝ }
+    requires { ⌜ (firsts + ruleSymbols ≤ length (now lists)) × (nexts + r < length (now lists)) × (symbol .0 < ruleSymbols) × (r ≤ mostRows) ⌝ }
     ensures { λ _. ⌜ now (lists .exit) ≡ set (set (now (lists .entry)) (nexts + r) (getD (now (lists .entry)) (firsts + symbol .0) 0)) (firsts + symbol .0) r ⌝ }
 {
     let at = firsts + place(symbol.0);
@@ -116,7 +125,7 @@ fn link(lists: &mut [u16], firsts: usize, nexts: usize, symbol: Symbol, r: usize
 
 // The rules in chains.
 pub fn chain_rules(rules: &[u16], lists: &mut [u16])
-    requires { ⌜ ((r : ℕ) → r < ruleCount (now rules) → ruleAt (now rules) r .symbol < mostSymbols) × (ruleCount (now rules) ≤ mostRules) × (nextRows (now rules) ≤ length (now lists)) ⌝ }
+    requires { ⌜ ((r : ℕ) → r < ruleCount (now rules) → ruleAt (now rules) r .symbol < ruleSymbols) × (ruleCount (now rules) ≤ mostRules) × (nextRows (now rules) ≤ length (now lists)) ⌝ }
     ensures { λ _. ⌜ Chaining (λ (r : ℕ). ruleAt (now (rules .entry)) r .symbol) (ruleCount (now (rules .entry))) firstRules nextRules 0 (now (lists .entry)) (now (lists .exit)) ⌝ }
 {
     let n = rules.len() / 3;
@@ -131,7 +140,7 @@ pub fn chain_rules(rules: &[u16], lists: &mut [u16])
 
 // The input rows in chains, with what follows each row from a place on.
 pub fn chain_rows(rows: &[u16], nexts: usize, lists: &mut [u16])
-    requires { ⌜ ((r : ℕ) → r < inputRowCount (now rows) → inputRow (now rows) r .symbol < mostSymbols) × (inputRowCount (now rows) ≤ mostRows) × (nextRules ≤ nexts) × (nexts + inputRowCount (now rows) ≤ length (now lists)) ⌝ }
+    requires { ⌜ ((r : ℕ) → r < inputRowCount (now rows) → inputRow (now rows) r .symbol < ruleSymbols) × (inputRowCount (now rows) ≤ mostRows) × (nextRules ≤ nexts) × (nexts + inputRowCount (now rows) ≤ length (now lists)) ⌝ }
     ensures { λ _. ⌜ Chaining (λ (r : ℕ). inputRow (now (rows .entry)) r .symbol) (inputRowCount (now (rows .entry))) firstRows nexts 0 (now (lists .entry)) (now (lists .exit)) ⌝ }
 {
     let n = rows.len() / 4;

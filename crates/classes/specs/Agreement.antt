@@ -8,12 +8,14 @@ use lib.Dec.{T}
 use lib.ListN.{length}
 use Rattle.foundation.specs.Tests.{_and_, same, same-eq, some-cong}
 use Rattle.model.specs.Tables.{Contract, Transformation, OutputType, inputRow, inputRowCount, ruleAt, ruleCount}
-use Rattle.model.specs.Expressions.{Child, left, right, Expression, parameter, nothing, symbol, call, Arguments, none, argument}
+use Rattle.model.specs.Expressions.{Child, left, right, here, Expression, parameter, nothing, symbol, call, Arguments, none, argument}
 use Rattle.model.specs.Outputs.{rightSide}
 use Rattle.model.specs.Facts.{FactSet, onSide, yields, yieldsAll, factsAt}
-use Rattle.model.specs.Kinds.{marksIn, reachedNext, stateIn, factsIn, nextKind}
+use Rattle.model.specs.Kinds.{marksIn, reachedNext, stateIn, factsIn, symbolKind, nextKind}
 use Rattle.model.proofs.Laws.Established.{Established}
 use Rattle.model.proofs.Laws.RootMarks.{same-marks}
+use Rattle.model.proofs.Laws.Calls.{EachCall, EachCallOfAll}
+use Rattle.model.proofs.Laws.Stays.{next-same}
 use Rattle.model.proofs.Laws.Facts.{AllBelow, IsFact, SameFacts, WellFormed, AllWellFormed, argumentCount, words-same, right-side-well-formed}
 
 -- what stands behind a test matters only where the test holds
@@ -21,19 +23,6 @@ pub guarded : (t x y : Bool) → (T t → x ≡ y) → (t and x) ≡ (t and y)
 unfolding _and_
 guarded true x y h = h tt
 guarded false x y h = refl
-
--- every call in an expression is of a child and a procedure that P holds of
-module _ (P : Child → ℕ → Type 0) where
-  abbrev mutual
-    pub EachCall : Expression → Type 0
-    EachCall (parameter i) = Unit {0}
-    EachCall nothing = Unit {0}
-    EachCall (symbol s e f) = EachCall e × EachCall f
-    EachCall (call p c es) = P c p × EachCallOfAll es
-
-    pub EachCallOfAll : Arguments → Type 0
-    EachCallOfAll none = Unit {0}
-    EachCallOfAll (argument e es) = EachCall e × EachCallOfAll es
 
 module _ (P Q : Child → ℕ → Type 0) (more : (c : Child) (p : ℕ) → P c p → Q c p) where
   mutual
@@ -94,6 +83,7 @@ module _ (M : Transformation) (Y : OutputType) (P : Child → ℕ → Type 0) (f
 pub record SameSeen (C : Contract) (s : ℕ) (P : Child → ℕ → Type 0) (kinds kinds′ : Child → List ℕ) : Type 0 where
   pub calls : (r : ℕ) → r < ruleCount (C .transformation .rules) → ruleAt (C .transformation .rules) r .symbol ≡ s
       → EachCall P (rightSide (C .transformation) r)
+  pub same : (p : ℕ) → P here p → P right p
   pub facts : (c : Child) (p q : ℕ) (qs : List ℕ) → P c p → IsFact (C .output .states) (C .transformation .counts) p q qs
       → factsIn C (kinds c) p q qs ≡ factsIn C (kinds′ c) p q qs
   pub leftStates : (k : ℕ) → k < inputRowCount (C .input .rows) → inputRow (C .input .rows) k .symbol ≡ s
@@ -105,9 +95,10 @@ pub record SameSeen (C : Contract) (s : ℕ) (P : Child → ℕ → Type 0) (kin
 pub next-kind-agree : (C : Contract) → Established C → (s : ℕ) (P : Child → ℕ → Type 0) (kinds kinds′ : Child → List ℕ)
     → SameSeen C s P kinds kinds′
     → nextKind C s (kinds left) (kinds right) ≡ nextKind C s (kinds′ left) (kinds′ right)
-unfolding nextKind reachedNext
+unfolding symbolKind reachedNext
 next-kind-agree C known s P kinds kinds′ seen =
-    words-same C _ _ _ _ (same-marks (seen .rightEmpty) refl)
+    next-same C s (kinds left) (kinds′ left) (kinds right) (kinds′ right)
+    (words-same C _ _ _ _ (same-marks (seen .rightEmpty) refl)
     (λ q hq.
     some-cong _ _ _
     (λ k hk.
@@ -115,9 +106,10 @@ next-kind-agree C known s P kinds kinds′ seen =
     (guarded (same (inputRow (C .input .rows) k .symbol) s) _ _
     (λ t. ap₂ _and_ (seen .leftStates k hk (same-eq _ _ t)) (seen .rightStates k hk (same-eq _ _ t))))))
     (facts-at-agree (C .transformation) (C .output) P (onSide (factsIn C (kinds left)) (factsIn C (kinds right)))
-    (onSide (factsIn C (kinds′ left)) (factsIn C (kinds′ right))) sides s (right-side-well-formed C known) (seen .calls))
+    (onSide (factsIn C (kinds′ left)) (factsIn C (kinds′ right))) sides s (right-side-well-formed C known) (seen .calls)))
   where
     sides : (c : Child) (p q : ℕ) (qs : List ℕ) → P c p → IsFact (C .output .states) (C .transformation .counts) p q qs
         → onSide (factsIn C (kinds left)) (factsIn C (kinds right)) c p q qs ≡ onSide (factsIn C (kinds′ left)) (factsIn C (kinds′ right)) c p q qs
     sides left p q qs k is = seen .facts left p q qs k is
     sides right p q qs k is = seen .facts right p q qs k is
+    sides here p q qs k is = seen .facts right p q qs (seen .same p k) is

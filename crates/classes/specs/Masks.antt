@@ -1,6 +1,6 @@
 -- Masks: five words that show the input states, the marks and the facts which a symbol can see of a child. Kinds that agree under the
 -- masks are of one class: the symbol makes the same kind of them.
-use mathlib.Core.Path.{_≡_, refl, ap, sym, _∙_}
+use mathlib.Core.Path.{_≡_, refl, ap, subst, sym, _∙_}
 use mathlib.Core.List.{List, [], _∷_}
 use mathlib.Core.Bool.{Bool, true}
 use Prim.Native.Nat.{ℕ, suc, _+_, _*_, _/_, _%_, _^_, _≤_, _<_}
@@ -14,13 +14,14 @@ use Rattle.foundation.specs.TestLaws.{and-true}
 use Rattle.foundation.specs.Words.{bit}
 use Rattle.foundation.specs.Bits.{bit-and}
 use Rattle.model.specs.Tables.{Contract, inputRow, inputRowCount, ruleAt, ruleCount, countOf}
-use Rattle.model.specs.Expressions.{Child, left, right}
+use Rattle.model.specs.Expressions.{Child, left, right, here}
 use Rattle.model.specs.Outputs.{rightSide}
 use Rattle.model.specs.Facts.{onSide, offset, code, factNumber}
 use Rattle.model.specs.Kinds.{emptyBit, marksIn, stateIn, bitOfFact, factsIn, nextKind}
 use Rattle.model.proofs.Laws.Established.{Established}
 use Rattle.model.proofs.Laws.Facts.{IsFact, code-lt, fact-number-lt}
-use Rattle.classes.specs.Agreement.{EachCall, next-kind-agree}
+use Rattle.model.proofs.Laws.Calls.{EachCall}
+use Rattle.classes.specs.Agreement.{next-kind-agree}
 
 -- words that are the same under a mask have the same bits where the mask has one
 pub mask-bit : (x y m i : ℕ) → bitAnd x m ≡ bitAnd y m → bit m i ≡ true → bit x i ≡ bit y i
@@ -47,6 +48,7 @@ pub record ShowsFacts (O : ℕ) (counts mask : List ℕ) (p : ℕ) : Type 0 wher
 pub record Covers (C : Contract) (s : ℕ) (masks : Child → List ℕ) : Type 0 where
   pub calls : (r : ℕ) → r < ruleCount (C .transformation .rules) → ruleAt (C .transformation .rules) r .symbol ≡ s
       → EachCall (λ c p. ShowsFacts (C .output .states) (C .transformation .counts) (masks c) p) (rightSide (C .transformation) r)
+  pub both : masks here ≡ masks right
   pub leftStates : (k : ℕ) → k < inputRowCount (C .input .rows) → inputRow (C .input .rows) k .symbol ≡ s
       → bit (getD (masks left) 0 0) (inputRow (C .input .rows) k .left) ≡ true
   pub rightStates : (k : ℕ) → k < inputRowCount (C .input .rows) → inputRow (C .input .rows) k .symbol ≡ s
@@ -104,6 +106,7 @@ module _ (C : Contract) (known : Established C) where
       next-kind-agree C known s (λ c p. ShowsFacts (C .output .states) (C .transformation .counts) (masks c) p) (onSide l r) (onSide l′ r′)
       (record {
         calls = covers .calls;
+        same = λ p shown. subst (λ (m : List ℕ). ShowsFacts (C .output .states) (C .transformation .counts) m p) (covers .both) shown;
         facts = sides;
         leftStates = λ k h e. state-agrees (masks left) l l′ al (inputRow (C .input .rows) k .left) (covers .leftStates k h e);
         rightStates = λ k h e. state-agrees (masks right) r r′ ar (inputRow (C .input .rows) k .right) (covers .rightStates k h e);
@@ -115,3 +118,5 @@ module _ (C : Contract) (known : Established C) where
           → factsIn C (onSide l r c) p q qs ≡ factsIn C (onSide l′ r′ c) p q qs
       sides left p q qs k is = fact-agrees (masks left) l l′ al p q qs k is
       sides right p q qs k is = fact-agrees (masks right) r r′ ar p q qs k is
+      sides here p q qs k is =
+          fact-agrees (masks right) r r′ ar p q qs (subst (λ (m : List ℕ). ShowsFacts (C .output .states) (C .transformation .counts) m p) (covers .both) k) is

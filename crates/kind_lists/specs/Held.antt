@@ -9,7 +9,7 @@ use borrow.Author.Tests.{ltb-true, ltb-false, eqb-true, eq-eqb}
 use lib.Dec.{eqb}
 use lib.ListN.{length, getD, take, drop, length-append, length-set, length-take, List·getD-append}
 use lib.Seq.{take-at, getD-take, getD-append-add, sets, sets-eq}
-use Rattle.foundation.specs.Lists.{append-nil}
+use Rattle.foundation.specs.Lists.{append-nil, five}
 use Rattle.foundation.specs.Tests.{test-false}
 use Rattle.foundation.specs.Search.{first, first-hit, first-clear}
 use Rattle.model.specs.Tables.{Contract}
@@ -22,7 +22,7 @@ use Rattle.model.proofs.Laws.Established.{Established}
 use Rattle.breaking.specs.Verdicts.{breaking, VerdictsOf, breaking-is}
 use Rattle.breaking.specs.declared.Verdicts.{Verdicts}
 use Rattle.kind_slots.specs.Stored.{kindIn, sameWords, sameKind, kindPlace, kindListed, withKind}
-use Rattle.kind_slots.proofs.Same.{all-five, five}
+use Rattle.kind_slots.proofs.Same.{all-five}
 use Rattle.kind_lists.specs.Listing.{withRow}
 
 -- a sixth number does not change the first five

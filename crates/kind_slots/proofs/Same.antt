@@ -11,7 +11,7 @@ use lib.ListN.{length, getD, set, length-set}
 use lib.Pow.{pow-pos}
 use lib.Seq.{getD-set-same, getD-set-other}
 use Rattle.foundation.specs.Tests.{_and_, same}
-use Rattle.foundation.specs.Lists.{sameList}
+use Rattle.foundation.specs.Lists.{sameList, five}
 use Rattle.kind_slots.specs.Stored.{paddedKind, sameWords, withKind}
 use Rattle.kind_slots.specs.Slots.{kindSum, weightedSum}
 
@@ -27,16 +27,6 @@ all-five a b c d e t =
     let r = both (a && b) c (q .0) in
     let s = both a b (r .0) in
     (s .0, s .1, r .1, q .1, p .1)
-
--- a list of five is its five numbers
-pub five : (l : List ℕ) → length l ≡ 5 → l ≡ getD l 0 0 ∷ getD l 1 0 ∷ getD l 2 0 ∷ getD l 3 0 ∷ getD l 4 0 ∷ []
-five [] e = absurd (omega arith)
-five (a ∷ []) e = absurd (omega arith)
-five (a ∷ b ∷ []) e = absurd (omega arith)
-five (a ∷ b ∷ c ∷ []) e = absurd (omega arith)
-five (a ∷ b ∷ c ∷ d ∷ []) e = absurd (omega arith)
-five (a ∷ b ∷ c ∷ d ∷ f ∷ []) e = refl
-five (a ∷ b ∷ c ∷ d ∷ f ∷ g ∷ l) e = absurd (omega arith)
 
 -- the test of five words is that of two lists of five
 pub same-words-list : (a b : List ℕ) → length a ≡ 5 → length b ≡ 5 → sameWords (a ++ (0 ∷ [])) (b ++ (0 ∷ [])) ≡ sameList a b

@@ -1,6 +1,6 @@
 -- The facts of a called procedure, read from a child's kind as a word of lanes.
 use mathlib.Core.Path.{_≡_, refl, ap, subst, sym, _∙_}
-use mathlib.Core.List.{List, [], _∷_}
+use mathlib.Core.List.{List}
 use mathlib.Core.Bool.{Bool, cond}
 use Prim.Native.Nat.{ℕ, _+_, _*_, _^_, _<_, _≤_}
 use native.Mathlib.Nat.{pow-zero, pow-suc, pow-le-pow-right}
@@ -12,7 +12,7 @@ use lib.Arith.{digits-lt}
 use lib.ListN.{length, getD}
 use Rattle.foundation.specs.Words.{bit}
 use Rattle.model.specs.Tables.{Contract, countOf}
-use Rattle.model.specs.Expressions.{Child, left, right, childOf}
+use Rattle.model.specs.Expressions.{Child, left, right, here, childOf}
 use Rattle.model.specs.Facts.{onSide, offset, code, factNumber}
 use Rattle.model.specs.Kinds.{factsIn, bitOfFact}
 use Rattle.model.proofs.Laws.Facts.{code-lt}
@@ -61,6 +61,7 @@ module _ (C : Contract) (l r : List ℕ) (K : ℕ) where
   unfolding factsIn
   on-side left p q qs = refl
   on-side right p q qs = refl
+  on-side here p q qs = refl
 
   procedure-is : (c : Child) (p : ℕ) → Words (onSide l r c) → 0 < O → O ^ countOf counts p ≤ O ^ K → O * O ^ countOf counts p ≤ 64
       → CalledIs (C .transformation) (C .output) called K c p (widened O (O ^ K) (O ^ countOf counts p) (factsFrom (onSide l r c) (offset O counts p)))
@@ -83,16 +84,19 @@ module _ (C : Contract) (l r : List ℕ) (K : ℕ) where
   pub called-is : (offsets : List ℕ) (tag child name : ℕ) → OffsetsIn C offsets → Narrow C K → Words l → Words r → tag ≡ 2 → name < length counts
       → CalledIs (C .transformation) (C .output) called K (childOf child) name (calledWord O (O ^ K) counts offsets l r tag child name)
   unfolding calledWord procedureWord
-  called-is offsets tag child name place small wl wr t h = go (ℕ-discrete child 1)
+  called-is offsets tag child name place small wl wr t h = go (ℕ-discrete child 0) (ℕ-discrete child 1)
     where
       narrow : O ^ countOf counts name ≤ O ^ K
       narrow = pow-le-pow-right (small .some) (small .narrow name)
 
-      go : Dec (child ≡ 1)
+      go : Dec (child ≡ 0) → Dec (child ≡ 1)
           → CalledIs (C .transformation) (C .output) called K (childOf child) name (calledWord O (O ^ K) counts offsets l r tag child name)
-      go (yes e) =
-          rw (eq-eqb tag 2 t, eq-eqb child 1 e, place name h)
+      go (yes z) d =
+          rw (eq-eqb tag 2 t, eq-eqb child 0 z, ne-eqb child 1 (λ e. omega arith), place name h)
+          (procedure-is here name wr (small .some) narrow (small .fit name))
+      go (no nz) (yes e) =
+          rw (eq-eqb tag 2 t, ne-eqb child 0 nz, eq-eqb child 1 e, place name h)
           (procedure-is left name wl (small .some) narrow (small .fit name))
-      go (no ne) =
-          rw (eq-eqb tag 2 t, ne-eqb child 1 ne, place name h)
+      go (no nz) (no ne) =
+          rw (eq-eqb tag 2 t, ne-eqb child 0 nz, ne-eqb child 1 ne, place name h)
           (procedure-is right name wr (small .some) narrow (small .fit name))

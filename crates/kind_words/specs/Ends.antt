@@ -1,5 +1,5 @@
--- Kinds held as six words: the sixth does not matter. The kind of the empty forest is that of symbol 0 over two kinds that
--- have input state 0 alone and no fact, with its own mark.
+-- Kinds held as six words: the sixth does not matter. What the rules of symbol 0 make is what they make over two kinds that have input
+-- state 0 alone and no fact, with the mark of the empty forest.
 use mathlib.Core.Path.{_≡_, refl, ap, ap₂, subst, sym, _∙_}
 use mathlib.Core.List.{List, [], _∷_, _++_}
 use mathlib.Core.Bool.{Bool, true, false}
@@ -15,11 +15,12 @@ use Rattle.foundation.specs.TestLaws.{and-true, same-no}
 use Rattle.foundation.specs.Bits.{bit-zero}
 use Rattle.model.specs.Tables.{Contract, inputRow}
 use Rattle.model.specs.Admission.{mostFacts}
-use Rattle.model.specs.Expressions.{Child, left, right}
 use Rattle.model.specs.Facts.{FactSet, noFacts, onSide, factNumber, factsAt}
-use Rattle.model.specs.Kinds.{RootMarks, emptyMarks, marksOver, factsIn, bitOfFact, stateIn, reachedNext, reachedEmpty, nextKind, emptyKind, kindWords}
+use Rattle.model.specs.Kinds.{RootMarks, emptyMarks, marksOver, factsIn, bitOfFact, stateIn, reachedNext, reachedEmpty, leafKind, symbolKind, emptyKind, nextKind, kindWords}
+use Rattle.model.specs.Expressions.{Child, left, right, here}
 use Rattle.model.proofs.Laws.Established.{Established}
 use Rattle.model.proofs.Laws.RootMarks.{marks-five}
+use Rattle.model.proofs.Laws.Stays.{stay-words}
 use Rattle.model.proofs.Laws.Facts.{SameFacts, words-same, facts-at-same, fact-number-lt, right-side-well-formed, length-words, words-below}
 use Rattle.kind_words.specs.Blocks.{zeros, Words}
 use Rattle.kind_words.specs.Marked.{unmarkedKind, firstWordMarked, words-marked}
@@ -31,6 +32,7 @@ module _ (C : Contract) (known : Established C) where
   on-both : (a a′ b b′ : FactSet) → Agree a a′ → Agree b b′ → (c : Child) → Agree (onSide a b c) (onSide a′ b′ c)
   on-both a a′ b b′ x y left = x
   on-both a a′ b b′ x y right = y
+  on-both a a′ b b′ x y here = y
 
   -- the facts of a kind stand in its first five words
   facts-five : (k : List ℕ) → Agree (factsIn C k) (factsIn C (take 5 k))
@@ -47,12 +49,24 @@ module _ (C : Contract) (known : Established C) where
   unfolding stateIn
   states-five k q = ap (λ (w : ℕ). bit w q) (sym (getD-take 5 k 0 0 (omega arith)))
 
-  pub kind-five : (s : ℕ) (l r : List ℕ) → nextKind C s l r ≡ nextKind C s (take 5 l) (take 5 r)
-  unfolding nextKind reachedNext
-  kind-five s l r =
-      words-same C _ _ _ _ (ap marksOver (marks-five r))
+  -- so what is made of two kinds, with whatever marks, is made of their first five words
+  made-of-five : (marks marks′ : RootMarks) (s : ℕ) (l r : List ℕ) → marks ≡ marks′
+      → kindWords C marks (reachedNext (C .input) s (stateIn C l) (stateIn C r)) (factsAt (C .transformation) (C .output) (onSide (factsIn C l) (factsIn C r)) s)
+      ≡ kindWords C marks′ (reachedNext (C .input) s (stateIn C (take 5 l)) (stateIn C (take 5 r)))
+      (factsAt (C .transformation) (C .output) (onSide (factsIn C (take 5 l)) (factsIn C (take 5 r))) s)
+  unfolding reachedNext
+  made-of-five marks marks′ s l r e =
+      words-same C _ _ _ _ e
       (λ q hq. some-cong _ _ _ (λ i hi. ap₂ _and_ refl (ap₂ _and_ refl (ap₂ _and_ (states-five l _) (states-five r _)))))
       (facts-at-same (C .transformation) (C .output) _ _ (on-both _ _ _ _ (facts-five l) (facts-five r)) (right-side-well-formed C known) s)
+
+  pub kind-five : (s : ℕ) (l r : List ℕ) → symbolKind C s l r ≡ symbolKind C s (take 5 l) (take 5 r)
+  unfolding symbolKind
+  kind-five s l r = made-of-five _ _ s l r (ap marksOver (marks-five r))
+
+  pub unmarked-five : (s : ℕ) (l r : List ℕ) → unmarkedKind C s l r ≡ unmarkedKind C s (take 5 l) (take 5 r)
+  unfolding unmarkedKind
+  unmarked-five s l r = made-of-five _ _ s l r refl
 
   -- what stands below the empty forest
   abbrev pub belowEmpty : List ℕ
@@ -69,6 +83,7 @@ module _ (C : Contract) (known : Established C) where
   unfolding factsIn
   no-facts left = record { at = λ p q qs is. no-fact _ }
   no-facts right = record { at = λ p q qs is. no-fact _ }
+  no-facts here = record { at = λ p q qs is. no-fact _ }
 
   state-zero : stateIn C belowEmpty 0 ≡ true
   unfolding stateIn bit
@@ -89,9 +104,9 @@ module _ (C : Contract) (known : Established C) where
           rw (row .leafLeft e, row .leafRight e, state-zero) (and-true (same (inputRow (C .input .rows) i .symbol) 0))
       go (no ne) = rw (same-no (inputRow (C .input .rows) i .symbol) 0 ne)
 
-  pub kind-of-empty : firstWordMarked emptyMarks (unmarkedKind C 0 belowEmpty belowEmpty ++ (0 ∷ [])) ≡ emptyKind C ++ (0 ∷ [])
-  unfolding unmarkedKind emptyKind reachedNext reachedEmpty
-  kind-of-empty =
+  pub leaf-kind-is : firstWordMarked emptyMarks (unmarkedKind C 0 belowEmpty belowEmpty ++ (0 ∷ [])) ≡ leafKind C ++ (0 ∷ [])
+  unfolding unmarkedKind leafKind reachedNext reachedEmpty
+  leaf-kind-is =
       words-marked C emptyMarks _ _
       ∙ ap (λ (k : List ℕ). k ++ (0 ∷ []))
       (words-same C _ _ _ _ refl (λ q hq. some-cong _ _ _ (λ i hi. ap₂ _and_ refl (leaf-row i hi)))
@@ -108,18 +123,17 @@ module _ (C : Contract) (known : Established C) where
           subst (λ (i : ℕ). getD (k ++ (0 ∷ [])) i 0 < 2 ^ 64) (sym e)
           (rw (getD-append-add k (0 ∷ []) (j - length k) 0, zeros 1 (j - length k)) (pow-pos 64))
 
-  of-words : (marks : RootMarks) (reaches : ℕ → Bool) (facts : FactSet) → Words (kindWords C marks reaches facts ++ (0 ∷ []))
+  pub of-words : (marks : RootMarks) (reaches : ℕ → Bool) (facts : FactSet) → Words (kindWords C marks reaches facts ++ (0 ∷ []))
   of-words marks reaches facts =
       kind-with-zero (kindWords C marks reaches facts) (length-words C marks reaches facts) (words-below C marks reaches facts (known .inputStates .≤most))
 
   pub next-words : (s : ℕ) (l r : List ℕ) → Words (nextKind C s l r ++ (0 ∷ []))
-  unfolding nextKind
-  next-words s l r =
-      of-words _ (reachedNext (C .input) s (stateIn C l) (stateIn C r)) (factsAt (C .transformation) (C .output) (onSide (factsIn C l) (factsIn C r)) s)
+  unfolding nextKind symbolKind
+  next-words s l r = rw (stay-words C _ _ _) (of-words _ _ _)
 
   pub empty-words : Words (emptyKind C ++ (0 ∷ []))
-  unfolding emptyKind
-  empty-words = of-words _ (reachedEmpty (C .input)) (factsAt (C .transformation) (C .output) (λ c. noFacts) 0)
+  unfolding emptyKind leafKind
+  empty-words = rw (stay-words C _ _ _) (of-words _ _ _)
 
 -- .. and so do those below the empty forest
 pub below-words : Words (1 ∷ 0 ∷ 0 ∷ 0 ∷ 0 ∷ 0 ∷ [])

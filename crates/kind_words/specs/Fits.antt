@@ -8,7 +8,7 @@ use lib.ListN.{length, getD}
 use Rattle.model.specs.Tables.{Contract, inputRow, inputRowCount, Node, nodeAt, nodeCount, ruleAt, ruleCount, countOf}
 use Rattle.model.specs.Admission.{tableLength, mostFacts}
 use Rattle.model.proofs.Laws.Established.{Established, GoodNode, good-parameter, good-nothing, good-symbol, good-call}
-use Rattle.kind_words.specs.Sizes.{mostSymbols, mostInputStates, mostProcedures, mostNodes, nextRules, nextRows}
+use Rattle.kind_words.specs.Sizes.{mostSymbols, ruleSymbols, mostInputStates, mostProcedures, mostNodes, nextRules, nextRows}
 use Rattle.kind_words.specs.Lanes.{Laid}
 use Rattle.kind_words.specs.Listed.{Layout}
 use Rattle.kind_words.specs.Kind.{Prepared, RulesChained, RowsChained, lanes-fit, offset-inside}
@@ -24,7 +24,7 @@ pub record OutputFits (lay : Layout) (table : List ℕ) (name : ℕ) : Type 0 wh
   pub layout : LayoutFits lay
   pub entry : (k : ℕ) → getD table k 0 < lay .states
   pub leaf : 0 < length table
-  pub small : name < mostSymbols
+  pub small : name < ruleSymbols
   pub room : 1 ≤ name → 1 + (name - 1) * lay .states * lay .states + lay .states * lay .states ≤ length table
 
 -- a procedure of that count has its facts from a number on
@@ -91,7 +91,7 @@ module _ {lay : Layout} {offsets counts table nodes : List ℕ} (fit : NodesFit 
   output-fits e =
       record { layout = fit .layout; entry = fit .entry; leaf = omega (arith, fit .tableLong); small = small (fit .node n h); room = room (fit .node n h) }
     where
-      small : GoodNode (fit .symbols) counts n node → node .name < mostSymbols
+      small : GoodNode (fit .symbols) counts n node → node .name < ruleSymbols
       small (good-parameter t a b) = absurd (omega arith)
       small (good-nothing t z) = omega arith
       small (good-symbol t a b c d) = omega (arith, fit .fewSymbols)

@@ -22,7 +22,7 @@ use Rattle.model.specs.Admission.{mostFacts}
 use Rattle.model.specs.Kinds.{factsIn, kindWords, numberedFact}
 use Rattle.model.proofs.Laws.Established.{Established}
 use Rattle.model.proofs.Laws.Facts.{numbered-none, offset-next}
-use Rattle.kind_words.specs.Sizes.{mostSymbols, listLengths, firstRules, firstRows, nextRules, nextRows}
+use Rattle.kind_words.specs.Sizes.{ruleSymbols, listLengths, firstRules, firstRows, nextRules, nextRows}
 use Rattle.kind_words.specs.Lanes.{Lanes, lanes-eq}
 use Rattle.kind_words.specs.Blocks.{narrowed-lanes, Holds, block-holds, nothing-holds, Words}
 use Rattle.kind_words.specs.Nodes.{LanesAre, NodeIs}
@@ -35,7 +35,7 @@ use Rattle.kind_words.specs.States.{rowStates, states-are}
 
 -- how many numbers the table of lists takes at most
 abbrev pub listsLength : (rows nodes rules : List ℕ) → ℕ
-listsLength rows nodes rules = nextRows rules + inputRowCount rows + mostSymbols * nodeCount nodes
+listsLength rows nodes rules = nextRows rules + inputRowCount rows + ruleSymbols * nodeCount nodes
 
 -- how many nodes the list of symbol s has
 abbrev pub listLength : List ℕ → ℕ → ℕ
@@ -109,8 +109,8 @@ RowsChained rows lists nexts = Chained (λ r. inputRow rows r .symbol) (inputRow
 -- in chains
 pub record ListsFor (counts nodes rules rows lists : List ℕ) : Type 0 where
   pub long : nextRows rules + inputRowCount rows ≤ length lists
-  pub inside : (s : ℕ) → s < mostSymbols → ListInside lists s
-  pub list : (s : ℕ) → s < mostSymbols → ListOf counts nodes (at (listOf lists s)) (length (listOf lists s))
+  pub inside : (s : ℕ) → s < ruleSymbols → ListInside lists s
+  pub list : (s : ℕ) → s < ruleSymbols → ListOf counts nodes (at (listOf lists s)) (length (listOf lists s))
   pub onList : (r : ℕ) → r < ruleCount rules
       → Before (at (listOf lists (ruleAt rules r .symbol))) (length (listOf lists (ruleAt rules r .symbol))) (ruleAt rules r .node)
   pub ofRules : RulesChained rules lists
@@ -228,7 +228,7 @@ module _ (C : Contract) (lay : Layout) (offsets lists : List ℕ) (prepared : Pr
         fit = λ p. lanes-fit O′ (countOf (C .transformation .counts) p) (known .outputStates .least≤) (known .outputStates .≤most) (known .count p);
       }
 
-  module _ (before : List ℕ) (long : nodeCount (C .transformation .nodes) ≤ length before) (s : ℕ) (hs : s < mostSymbols) (l r : List ℕ) (leftWords : Words l)
+  module _ (before : List ℕ) (long : nodeCount (C .transformation .nodes) ≤ length before) (s : ℕ) (hs : s < ruleSymbols) (l r : List ℕ) (leftWords : Words l)
       (rightWords : Words r) where
     abbrev facts′ : Child → ℕ → ℕ → List ℕ → Bool
     facts′ = onSide (factsIn C l) (factsIn C r)

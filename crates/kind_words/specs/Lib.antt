@@ -12,3 +12,4 @@ pub mod Marked
 pub mod Kind
 pub mod Ends
 pub mod Fits
+pub mod Closing

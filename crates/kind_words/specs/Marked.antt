@@ -8,7 +8,7 @@ use lib.ListN.{getD, set}
 use Rattle.foundation.specs.Words.{word}
 use Rattle.model.specs.Tables.{Contract}
 use Rattle.model.specs.Facts.{FactSet, onSide, factsAt}
-use Rattle.model.specs.Kinds.{RootMarks, rootBit, marksOver, withMarks, marksIn, reachedNext, stateIn, factsIn, kindWords, nextKind}
+use Rattle.model.specs.Kinds.{RootMarks, rootBit, marksOver, withMarks, marksIn, reachedNext, stateIn, factsIn, kindWords, symbolKind}
 use Rattle.model.proofs.Laws.RootMarks.{states-below-marks}
 
 abbrev pub noMarks : RootMarks
@@ -18,7 +18,7 @@ pub no-marks-added : {states : ℕ} → withMarks noMarks states ≡ states
 unfolding withMarks
 no-marks-added = omega arith
 
--- the kind of symbol s over two kinds, without its marks
+-- what the rules of symbol s make over two kinds, without its marks
 unfoldable pub unmarkedKind : Contract → ℕ → (l r : List ℕ) → List ℕ
 unmarkedKind C s l r =
     kindWords C noMarks (reachedNext (C .input) s (stateIn C l) (stateIn C r)) (factsAt (C .transformation) (C .output) (onSide (factsIn C l) (factsIn C r)) s)
@@ -38,10 +38,10 @@ module _ (C : Contract) where
   unfolding kindWords
   words-marked marks reaches facts = rw (no-marks-added {states = word (C .input .states) reaches})
 
-  -- the kind of a symbol has the marks that its right child gives it
-  pub next-marked : (s : ℕ) (l r : List ℕ) → firstWordMarked (marksOver (marksIn r)) (unmarkedKind C s l r ++ (0 ∷ [])) ≡ nextKind C s l r ++ (0 ∷ [])
-  unfolding unmarkedKind nextKind
-  next-marked s l r = words-marked _ _ _
+  -- what a symbol's rules make has the marks that its right child gives it
+  pub symbol-marked : (s : ℕ) (l r : List ℕ) → firstWordMarked (marksOver (marksIn r)) (unmarkedKind C s l r ++ (0 ∷ [])) ≡ symbolKind C s l r ++ (0 ∷ [])
+  unfolding unmarkedKind symbolKind
+  symbol-marked s l r = words-marked _ _ _
 
   pub unmarked-small : C .input .states ≤ 32 → (s : ℕ) (l r : List ℕ) → getD (unmarkedKind C s l r ++ (0 ∷ [])) 0 0 < 2 ^ rootBit
   unfolding unmarkedKind kindWords

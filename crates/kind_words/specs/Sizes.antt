@@ -7,6 +7,10 @@ use Rattle.model.specs.Tables.{ruleCount}
 abbrev pub mostSymbols : ℕ
 mostSymbols = 16
 
+-- the symbols that rules have: those of the contract, and S, which stay rules have
+abbrev pub ruleSymbols : ℕ
+ruleSymbols = 17
+
 abbrev pub mostInputStates : ℕ
 mostInputStates = 32
 
@@ -22,20 +26,20 @@ mostNodes = 256
 abbrev pub mostRules : ℕ
 mostRules = 256
 
--- The table of lists begins with four numbers for each symbol s: at place s where the list of the nodes that its rules reach
+-- The table of lists begins with four numbers for each symbol s that rules have: at place s where the list of the nodes that its rules reach
 -- starts, and further on how many they are, its first rule, and its first input row.
 abbrev pub listLengths : ℕ
-listLengths = 16
+listLengths = 17
 
 abbrev pub firstRules : ℕ
-firstRules = 32
+firstRules = 34
 
 abbrev pub firstRows : ℕ
-firstRows = 48
+firstRows = 51
 
 -- Then it has after each rule the next one of its symbol, the same for input rows, and the nodes.
 abbrev pub nextRules : ℕ
-nextRules = 64
+nextRules = 68
 
 abbrev pub nextRows : (rules : List ℕ) → ℕ
 nextRows rules = nextRules + ruleCount rules

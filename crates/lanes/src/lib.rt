@@ -14,6 +14,9 @@ use tables::output_state_at;
 // The most symbols, procedures, input rows, nodes and rules that an admitted contract has: there is room for so many.
 pub const SYMBOLS: usize = 16;
 
+// The symbols that rules may have: stay rules have one more than the others.
+pub const RULE_SYMBOLS: usize = SYMBOLS + 1;
+
 pub const PROCEDURES: usize = 16;
 
 pub const INPUT_ROWS: usize = 512;

@@ -17,20 +17,20 @@ use Rattle.foundation.specs.Tests.{choose, _or_, or-left, or-right, true-test, 
 use Rattle.foundation.specs.Words.{bit}
 use Rattle.foundation.specs.Bits.{bit-shl, bit-ones, bit-or}
 use Rattle.model.specs.Tables.{Contract, Node, nodeAt, nodeCount, ruleAt, countOf}
-use Rattle.model.specs.Expressions.{Child, left, right, childOf, Expression, argumentsOf, expression}
+use Rattle.model.specs.Expressions.{Child, left, right, here, childOf, Expression, argumentsOf, expression}
 use Rattle.model.specs.Facts.{offset}
 use Rattle.model.specs.Kinds.{emptyBit}
 use Rattle.model.specs.Admission.{references, mostFacts}
 use Rattle.model.proofs.Laws.Established.{Established, GoodNode, good-parameter, good-nothing, good-symbol, good-call}
 use Rattle.model.proofs.Laws.Expressions.{expression-parameter, expression-nothing, expression-symbol, expression-call}
 use Rattle.model.proofs.Laws.Facts.{offset-next}
-use Rattle.kind_words.specs.Sizes.{mostSymbols, mostProcedures}
+use Rattle.kind_words.specs.Sizes.{ruleSymbols, mostProcedures}
 use Rattle.kind_words.specs.Blocks.{withBlock, Holds, block-holds, nothing-holds}
 use Rattle.kind_words.specs.Listed.{Layout, at, AreNodes, Before, ListOf}
 use Rattle.kind_words.specs.Called.{OffsetsIn}
 use Rattle.kind_words.specs.Kind.{Prepared, listOf, lanes-fit, offset-inside}
 use Rattle.lanes.proofs.Room.{pow-some}
-use Rattle.classes.specs.Agreement.{EachCall, EachCallOfAll}
+use Rattle.model.proofs.Laws.Calls.{EachCall, EachCallOfAll}
 use Rattle.classes.specs.Masks.{ShowsFacts, maskIn}
 use Rattle.masks.specs.Seen.{sideOf, statesSeen, state-seen, marksSeen, empty-seen, Sees}
 
@@ -240,17 +240,30 @@ left-not-right e = subst (λ (c : Child). isLeft c) e tt
     isLeft : Child → Type 0
     isLeft left = Unit {0}
     isLeft right = ⊥
+    isLeft here = ⊥
 
-child-on : (c : ℕ) (b : Bool) → 1 ≤ c → c ≤ 2 → childOf c ≡ sideOf b → eqb c (choose b 2 1) ≡ true
-child-on zero b l m e = absurd (omega arith)
-child-on (suc zero) false l m e = refl
-child-on (suc zero) true l m e = absurd (left-not-right e)
-child-on (suc (suc zero)) true l m e = refl
-child-on (suc (suc zero)) false l m e = absurd (left-not-right (sym e))
-child-on (suc (suc (suc c))) b l m e = absurd (omega arith)
+not-here : (b : Bool) → here ≡ sideOf b → ⊥
+not-here b e = go b (subst (λ (c : Child). isHere c) e tt)
+  where
+    isHere : Child → Type 0
+    isHere left = ⊥
+    isHere right = ⊥
+    isHere here = Unit {0}
+
+    go : (b : Bool) → isHere (sideOf b) → ⊥
+    go true h = h
+    go false h = h
+
+child-on : (c : ℕ) (b : Bool) → c ≤ 2 → childOf c ≡ sideOf b → eqb c (choose b 2 1) ≡ true
+child-on zero b m e = absurd (not-here b e)
+child-on (suc zero) false m e = refl
+child-on (suc zero) true m e = absurd (left-not-right e)
+child-on (suc (suc zero)) true m e = refl
+child-on (suc (suc zero)) false m e = absurd (left-not-right (sym e))
+child-on (suc (suc (suc c))) b m e = absurd (omega arith)
 
 -- what a prepared contract has for symbol s
-module _ {C : Contract} {lay : Layout} {offsets lists : List ℕ} (prepared : Prepared C lay offsets lists) (s : ℕ) (h : s < mostSymbols) where
+module _ {C : Contract} {lay : Layout} {offsets lists : List ℕ} (prepared : Prepared C lay offsets lists) (s : ℕ) (h : s < ruleSymbols) where
   abbrev known′ : Established C
   known′ = prepared .established
 
@@ -325,7 +338,7 @@ module _ {C : Contract} {lay : Layout} {offsets lists : List ℕ} (prepared : Pr
           go (good-parameter e a b) = absurd (omega arith)
           go (good-nothing e z) = absurd (omega arith)
           go (good-symbol e a b x y) = absurd (omega arith)
-          go (good-call u p c x y) = rw (eq-eqb _ _ t) (child-on (nodeAt (C .transformation .nodes) n .child) onRight (c .least≤) (c .≤most) e)
+          go (good-call u p c x y) = rw (eq-eqb _ _ t) (child-on (nodeAt (C .transformation .nodes) n .child) onRight c e)
 
       calls : (i : ℕ) → i < length list → nodeAt (C .transformation .nodes) (at list i) .tag ≡ 2
           → childOf (nodeAt (C .transformation .nodes) (at list i) .child) ≡ sideOf onRight

@@ -2,7 +2,7 @@
 -- the facts of the procedures that its rules call there.
 use mathlib.Core.Path.{_≡_, refl, ap, sym, subst, _∙_}
 use mathlib.Core.List.{List}
-use mathlib.Core.Bool.{Bool, true, false}
+use mathlib.Core.Bool.{Bool, true, false, true≢false}
 use Prim.Native.Nat.{ℕ, zero, suc, _+_, _*_, _^_, _<_, _≤_}
 use native.Mathlib.Nat.{add-zero}
 use native.Mathlib.Numerals.{add-one}
@@ -17,13 +17,14 @@ use Rattle.foundation.specs.Tests.{choose, true-test, test-true, some-intro}
 use Rattle.foundation.specs.Words.{bit}
 use Rattle.foundation.specs.Bits.{bit-shl, orTo, orTo-bit}
 use Rattle.model.specs.Tables.{Contract, InputRow, inputRow, inputRowCount, ruleAt, ruleCount}
-use Rattle.model.specs.Expressions.{Child, left, right, Expression, parameter, nothing, symbol, call, Arguments, none, argument}
+use Rattle.model.specs.Expressions.{Child, left, right, here, stays, Expression, parameter, nothing, symbol, call, Arguments, none, argument}
 use Rattle.model.specs.Outputs.{rightSide}
 use Rattle.model.specs.Facts.{onSide}
 use Rattle.model.specs.Kinds.{emptyBit}
 use Rattle.kind_words.specs.Chains.{NextFrom, or-first, or-next}
 use Rattle.kind_words.specs.Fits.{RowsFit}
-use Rattle.classes.specs.Agreement.{EachCall, EachCallOfAll}
+use Rattle.model.proofs.Laws.Established.{Established}
+use Rattle.model.proofs.Laws.Calls.{EachCall, EachCallOfAll, ruled}
 use Rattle.classes.specs.Masks.{ShowsFacts, maskWords, maskIn, Covered}
 
 -- the side that a flag names
@@ -112,14 +113,17 @@ module _ (P Q R : Child → ℕ → Type 0) (both : (c : Child) (p : ℕ) → P 
     each-call-of-all-both (argument e es) h k = (each-call-both e (h .0) (k .0), each-call-of-all-both es (h .1) (k .1))
 
 -- masks that show what the symbols can see on each side
-pub covered : (C : Contract) (leftMasks rightMasks : List ℕ) → AllSee C false (C .transformation .symbols) leftMasks
+pub covered : (C : Contract) → Established C → (leftMasks rightMasks : List ℕ) → AllSee C false (C .transformation .symbols) leftMasks
     → AllSee C true (C .transformation .symbols) rightMasks
     → Covered C leftMasks rightMasks
-covered C leftMasks rightMasks l r =
+covered C known leftMasks rightMasks l r =
     record {
       covers = λ s h k.
           record {
-            calls = λ j hj e. each-call-both _ _ _ (both s) (rightSide (C .transformation) j) (l .sees s h k .calls j hj e) (r .sees s h k .calls j hj e);
+            calls = λ j hj e.
+                each-call-both _ _ _ (both s) (rightSide (C .transformation) j) (l .sees s h k .calls j hj e)
+                (each-call-both _ _ _ (λ c p g m. (g, m)) (rightSide (C .transformation) j) (r .sees s h k .calls j hj e) (ruled C known .moving j hj (omega arith)));
+            both = refl;
             leftStates = λ j hj e. l .sees s h k .states j hj e;
             rightStates = λ j hj e. r .sees s h k .states j hj e;
             rightEmpty = r .sees s h k .isEmpty refl;
@@ -129,10 +133,12 @@ covered C leftMasks rightMasks l r =
     Shows : List ℕ → ℕ → Type 0
     Shows mask p = ShowsFacts (C .output .states) (C .transformation .counts) mask p
 
-    both : (s : ℕ) (c : Child) (p : ℕ) → (c ≡ left → Shows (maskIn leftMasks s) p) → (c ≡ right → Shows (maskIn rightMasks s) p)
+    -- a symbol's rules hold no call that stays
+    both : (s : ℕ) (c : Child) (p : ℕ) → (c ≡ left → Shows (maskIn leftMasks s) p) → (c ≡ right → Shows (maskIn rightMasks s) p) × (stays c ≡ false)
         → Shows (onSide (maskIn leftMasks s) (maskIn rightMasks s) c) p
     both s left p f g = f refl
-    both s right p f g = g refl
+    both s right p f g = g .0 refl
+    both s here p f g = absurd (true≢false (g .1))
 
 -- the first n words of the mask of symbol s put among the masks
 unfoldable pub storedTo : (masks : List ℕ) (s : ℕ) (mask : List ℕ) → ℕ → List ℕ
@@ -193,10 +199,10 @@ module _ (masks : List ℕ) (s : ℕ) (mask : List ℕ) where
 -- the masks with one symbol's mask more
 pub see-more : (C : Contract) (onRight : Bool) (s : ℕ) (masks mask : List ℕ) → maskWords * s + maskWords ≤ length masks → AllSee C onRight s masks → Sees C s onRight (maskIn mask 0)
     → AllSee C onRight (s + 1) (stored masks s mask)
-see-more C onRight s masks mask h all here = record { sees = λ t l k. go t l k (ℕ-discrete t s) }
+see-more C onRight s masks mask h all own = record { sees = λ t l k. go t l k (ℕ-discrete t s) }
   where
     go : (t : ℕ) → 1 ≤ t → t < s + 1 → Dec (t ≡ s) → Sees C t onRight (maskIn (stored masks s mask) t)
-    go t l k (yes e) = rw e (subst (λ (m : List ℕ). Sees C s onRight m) (sym (stored-here masks s mask h)) here)
+    go t l k (yes e) = rw e (subst (λ (m : List ℕ). Sees C s onRight m) (sym (stored-here masks s mask h)) own)
     go t l k (no ne) = subst (λ (m : List ℕ). Sees C t onRight m) (sym (stored-other masks s mask t ne)) (all .sees t l (omega arith))
 
 pub see-none : (C : Contract) (onRight : Bool) (masks : List ℕ) → AllSee C onRight 1 masks

@@ -5,7 +5,7 @@ ghost use Prim.Native.Nat.{_+_, _*_, _<_, _≤_};
 ghost use lib.ListN.{length};
 ghost use Rattle.foundation.specs.Tests.{choose};
 ghost use Rattle.tables.specs.Tuples.{inputRowOf, nodeOf};
-ghost use Rattle.kind_words.specs.Sizes.{mostSymbols};
+ghost use Rattle.kind_words.specs.Sizes.{mostSymbols, ruleSymbols};
 ghost use Rattle.kind_words.specs.Fits.{RowsIn};
 ghost use Rattle.prepared.specs.Parts.{contractIn, listsIn, Ready};
 ghost use Rattle.classes.specs.Masks.{maskWords, maskIn, Covered};
@@ -65,7 +65,7 @@ fn state_bit(row: InputRow, on_right: bool) -> u64
 
 // The states that the symbol's input rows name on a side: the rows in the symbol's chain.
 fn states_named(lists: &[u16], rows: &[u16], nexts: usize, symbol: Symbol, on_right: bool) -> u64
-    requires { ⌜ RowsIn (now rows) (now lists) nexts × (symbol .0 < mostSymbols) ⌝ }
+    requires { ⌜ RowsIn (now rows) (now lists) nexts × (symbol .0 < ruleSymbols) ⌝ }
     ensures { λ r. ⌜ r ≡ statesSeen (now (rows .entry)) (symbol .0) «on_right» ⌝ }
 {
     let count = rows.len() / 4;
@@ -81,7 +81,7 @@ fn states_named(lists: &[u16], rows: &[u16], nexts: usize, symbol: Symbol, on_ri
 
 // The states that a symbol can see on a side.
 fn states_seen(prepared: Prepared, table: &[u16], symbol: Symbol, on_right: bool) -> u64
-    requires { ⌜ Ready prepared (now table) × (symbol .0 < mostSymbols) ⌝ }
+    requires { ⌜ Ready prepared (now table) × (symbol .0 < ruleSymbols) ⌝ }
     ensures { λ r. ⌜ r ≡ statesSeen (contractIn prepared (now (table .entry)) .input .rows) (symbol .0) «on_right» ⌝ }
 {
     states_named(
@@ -167,7 +167,7 @@ fn facts_called(
 
 // The facts that a symbol can see on a side.
 fn facts_seen(prepared: Prepared, table: &[u16], symbol: Symbol, on_right: bool) -> [u64; 6]
-    requires { ⌜ Ready prepared (now table) × (symbol .0 < mostSymbols) ⌝ }
+    requires { ⌜ Ready prepared (now table) × (symbol .0 < ruleSymbols) ⌝ }
     ensures { λ r. ⌜ r ≡ factsSeen (contractIn prepared (now (table .entry))) (prepared .offsets) (listsIn prepared (now (table .entry))) (symbol .0) «on_right» ⌝ }
 {
     let layout = prepared.layout;
@@ -184,7 +184,7 @@ fn facts_seen(prepared: Prepared, table: &[u16], symbol: Symbol, on_right: bool)
 
 // What a symbol can see on a side.
 fn mask_of(prepared: Prepared, table: &[u16], symbol: Symbol, on_right: bool) -> [u64; 6]
-    requires { ⌜ Ready prepared (now table) × (symbol .0 < mostSymbols) ⌝ }
+    requires { ⌜ Ready prepared (now table) × (symbol .0 < ruleSymbols) ⌝ }
     ensures { λ r. ⌜ Sees (contractIn prepared (now (table .entry))) (symbol .0) «on_right» (maskIn r 0) ⌝ }
 {
     let mut mask = facts_seen(prepared, table, symbol, on_right);

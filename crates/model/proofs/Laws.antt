@@ -9,8 +9,12 @@ pub mod Nodes
 pub mod Admitted
 pub mod RootMarks
 pub mod Facts
+pub mod Calls
+pub mod Growing
+pub mod Stays
 pub mod Documents
 pub mod Rules
 pub mod Shorter
 pub mod Merging
 pub mod Masked
+pub mod Calling

@@ -8,7 +8,7 @@ use lib.Dec.{eqb, ltb, leb}
 use lib.ListN.{length, getD}
 use Rattle.foundation.specs.Tests.{choose}
 use Rattle.model.specs.Tables.{Contract, InputRow, inputRow, inputRowCount, Node, nodeAt, nodeCount, Rule, ruleAt, ruleCount, countOf, markAt}
-use Rattle.model.specs.Expressions.{expression, greatestParameter, holdsCall}
+use Rattle.model.specs.Expressions.{stays, moves, Expression, expression, greatestParameter, holdsCall, holdsCallTo}
 use Rattle.model.specs.Facts.{factTotal}
 use Rattle.model.specs.Answers.{Verdict, refuseIf, refuseFirst, refuseLowest, _then_, Answer, admitted, refusal, given}
 
@@ -71,9 +71,9 @@ abbrev pub nameWrong : ℕ → List ℕ → Node → Bool
 nameWrong S counts n =
     choose (eqb (n .tag) 0) (outside 1 2 (n .name)) (choose (eqb (n .tag) 1) (leb S (n .name)) (leb (length counts) (n .name)))
 
--- "32 child": "on child 1 (left) or 2 (right)", and "Only a call's child is 32"
+-- "32 child": "on child 1 (left) or 2 (right)", and "Only a call's child is 32"; "a call's child 0 is no longer 32" (change request W-208)
 abbrev pub childWrong : Node → Bool
-childWrong n = eqb (n .tag) 2 && outside 1 2 (n .child)
+childWrong n = eqb (n .tag) 2 && ltb 2 (n .child)
 
 -- field i of a node that uses so many of the two, its first and its second: it is used and no smaller node number
 abbrev pub fieldWrong : (used i k field : ℕ) → Bool
@@ -113,23 +113,28 @@ abbrev pub ArgumentField : (parameters i k field : ℕ) → Type 0
 ArgumentField parameters i k field = (i ≤ parameters → field < k) × (parameters < i → field ≡ 0)
 
 -- node k without a fault: "Tag 0 is parameter name, 1 or 2, the rest 0. Tag 1 is output symbol name, child 0; for symbol 0 first and
--- second are 0, otherwise both are smaller node numbers. Tag 2 calls procedure name on child 1 (left) or 2 (right); its arguments .."
+-- second are 0, otherwise both are smaller node numbers. Tag 2 calls procedure name on child 1 (left) or 2 (right); its arguments ..";
+-- and on child 0, where a stay rule's calls stay
 -- (proofs/Laws/Nodes.antt: nodeFault is fine exactly then)
 pub data FaultlessNode (S : ℕ) (counts : List ℕ) (k : ℕ) (n : Node) : Type 0 where
   a-parameter : n .tag ≡ 0 → 1 ≤ n .name → n .name ≤ 2 → n .child ≡ 0 → n .first ≡ 0 → n .second ≡ 0 → FaultlessNode S counts k n
   symbol-0 : n .tag ≡ 1 → n .name ≡ 0 → 0 < S → n .child ≡ 0 → n .first ≡ 0 → n .second ≡ 0 → FaultlessNode S counts k n
   a-symbol : n .tag ≡ 1 → 1 ≤ n .name → n .name < S → n .child ≡ 0 → n .first < k → n .second < k → FaultlessNode S counts k n
-  a-call : n .tag ≡ 2 → n .name < length counts → 1 ≤ n .child → n .child ≤ 2
+  a-call : n .tag ≡ 2 → n .name < length counts → n .child ≤ 2
       → ArgumentField (countOf counts (n .name)) 1 k (n .first)
       → ArgumentField (countOf counts (n .name)) 2 k (n .second)
       → FaultlessNode S counts k n
 
--- "The node uses, directly or below, no parameter above the procedure's count; under symbol 0 it holds no call."
+-- "under symbol 0 it holds no call"; "a symbol's rule with one [call of child 0], or a stay rule with child 1 or 2, is 7"
+abbrev pub callsWrong : ℕ → (symbol : ℕ) → Expression → Bool
+callsWrong S s e = (eqb s 0 && holdsCall e) || choose (eqb s S) (holdsCallTo moves e) (holdsCallTo stays e)
+
+-- "The node uses, directly or below, no parameter above the procedure's count"; a stay rule "has symbol S"
 abbrev pub ruleWrong : ℕ → (counts nodes : List ℕ) → Rule → Bool
 ruleWrong S counts nodes r =
-    leb (length counts) (r .procedure) || leb S (r .symbol) || leb (nodeCount nodes) (r .node)
+    leb (length counts) (r .procedure) || ltb S (r .symbol) || leb (nodeCount nodes) (r .node)
     || ltb (countOf counts (r .procedure)) (greatestParameter (expression counts nodes (r .node)))
-    || (eqb (r .symbol) 0 && holdsCall (expression counts nodes (r .node)))
+    || callsWrong S (r .symbol) (expression counts nodes (r .node))
 
 -- "At most 256 facts in all."
 abbrev pub mostFacts : ℕ

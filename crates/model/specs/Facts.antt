@@ -5,10 +5,10 @@ use mathlib.Core.Bool.{Bool, true, false}
 use Prim.Native.Nat.{ℕ, zero, suc, _+_, _*_, _-_, _/_, _%_, _^_}
 use lib.Dec.{ltb}
 use lib.ListN.{length, getD}
-use Rattle.foundation.specs.Tests.{someBelow, _and_, same, below}
+use Rattle.foundation.specs.Tests.{someBelow, _and_, _or_, same, below}
 use Rattle.model.specs.Trees.{Tree, empty, node}
 use Rattle.model.specs.Tables.{Transformation, OutputType, emptyState, nextState, ruleAt, ruleCount, countOf}
-use Rattle.model.specs.Expressions.{Child, left, right, Expression, parameter, nothing, symbol, call, Arguments, none, argument}
+use Rattle.model.specs.Expressions.{Child, left, right, here, Expression, parameter, nothing, symbol, call, Arguments, none, argument}
 use Rattle.model.specs.Outputs.{Algebra, Gives, rightSide}
 
 -- trees some of whose leaves carry a state
@@ -42,14 +42,26 @@ FactSet = ℕ → ℕ → List ℕ → Bool
 abbrev pub noFacts : FactSet
 noFacts p q qs = false
 
--- the facts of the child on a side
+-- what stands on a side: of the left child, or of the right one. A call that stays is in stay rules alone, whose both sides are
+-- the node itself.
 abbrev pub onSide {ℓ} : {A : Type ℓ} → A → A → Child → A
 onSide l r left = l
 onSide l r right = r
+onSide l r here = r
+
+-- "An offset is the sum of O^(k+1) over the earlier procedures."
+unfoldable pub offset : ℕ → List ℕ → ℕ → ℕ
+offset O [] p = 0
+offset O (k ∷ counts) zero = 0
+offset O (k ∷ counts) (suc p) = O ^ suc k + offset O counts p
+
+-- how many facts there are
+abbrev pub factTotal : ℕ → List ℕ → ℕ
+factTotal O counts = offset O counts (length counts)
 
 module _ (T : Transformation) (Y : OutputType) where
   unfoldable mutual
-    -- an expression can give state q, parameters carrying the states qs, from the facts of the children
+    -- an expression can give state q, parameters carrying the states qs, from the facts where its calls go
     pub yields : (Child → FactSet) → Expression → List ℕ → ℕ → Bool
     yields facts (parameter i) qs q = below i (length qs) and same q (getD qs i 0)
     yields facts nothing qs q = same q (emptyState Y)
@@ -68,10 +80,24 @@ module _ (T : Transformation) (Y : OutputType) where
       someBelow (ruleCount (T .rules))
       (λ r. same (ruleAt (T .rules) r .procedure) p and same (ruleAt (T .rules) r .symbol) s and yields facts (rightSide T r) qs q)
 
-  -- the facts of a tree
+  -- the facts of a node after one round of the stay rules, which are the rules of symbol S: those it had, and those that a
+  -- stay rule gives from them
+  unfoldable pub stayRound : FactSet → FactSet
+  stayRound facts p q qs = facts p q qs or factsAt (onSide facts facts) (T .symbols) p q qs
+
+  unfoldable pub stayRounds : ℕ → FactSet → FactSet
+  stayRounds zero facts = facts
+  stayRounds (suc n) facts = stayRound (stayRounds n facts)
+
+  -- "the least sets closed under the rules": each round but the last adds a fact, so that as many are enough as there are
+  -- facts
+  unfoldable pub closedFacts : FactSet → FactSet
+  closedFacts facts = stayRounds (factTotal (Y .states) (T .counts)) facts
+
+  -- the facts of a tree: those of its symbol's rules, closed under the stay rules
   unfoldable pub fact : Tree → FactSet
-  fact empty = factsAt (λ c. noFacts) 0
-  fact (node s l r) = factsAt (onSide (fact l) (fact r)) s
+  fact empty = closedFacts (factsAt (λ c. noFacts) 0)
+  fact (node s l r) = closedFacts (factsAt (onSide (fact l) (fact r)) s)
 
 -- numbers in base O, the first digit the highest
 unfoldable pub digits : (O k : ℕ) → ℕ → List ℕ
@@ -82,16 +108,6 @@ digits O (suc k) x = (x / O ^ k) ∷ digits O k (x % O ^ k)
 unfoldable pub code : ℕ → List ℕ → ℕ
 code O [] = 0
 code O (q ∷ qs) = q * O ^ length qs + code O qs
-
--- "An offset is the sum of O^(k+1) over the earlier procedures."
-unfoldable pub offset : ℕ → List ℕ → ℕ → ℕ
-offset O [] p = 0
-offset O (k ∷ counts) zero = 0
-offset O (k ∷ counts) (suc p) = O ^ suc k + offset O counts p
-
--- how many facts there are
-abbrev pub factTotal : ℕ → List ℕ → ℕ
-factTotal O counts = offset O counts (length counts)
 
 -- "the number is p's offset plus q × O^k, plus .."
 unfoldable pub factNumber : (O : ℕ) (counts : List ℕ) → ℕ → ℕ → List ℕ → ℕ

@@ -8,7 +8,7 @@ use Rattle.foundation.specs.Tests.{someBelow, _and_, same}
 use Rattle.foundation.specs.Words.{bit, word, one-if}
 use Rattle.model.specs.Trees.{Tree, empty, node}
 use Rattle.model.specs.Tables.{Contract, InputType, inputRow, inputRowCount, markAt}
-use Rattle.model.specs.Facts.{FactSet, noFacts, onSide, factsAt, factNumber, numbered}
+use Rattle.model.specs.Facts.{FactSet, noFacts, onSide, factsAt, closedFacts, factNumber, numbered}
 
 -- "The empty forest reaches each state that has an input row with symbol 0"
 unfoldable pub reachedEmpty : InputType → ℕ → Bool
@@ -57,15 +57,18 @@ module _ (C : Contract) where
   abbrev pub numberedFact : FactSet → ℕ → Bool
   numberedFact facts f = numbered (C .output .states) (C .transformation .counts) facts f
 
-  -- "word 0 has a bit for each input state the tree reaches; fact f is bit f mod 64 of word 1 + f div 64"; "two marks in word 0"
-  unfoldable pub kindWords : RootMarks → (ℕ → Bool) → FactSet → List ℕ
-  kindWords marks reaches facts =
-      withMarks marks (word (C .input .states) reaches)
-      ∷ word 64 (λ b. numberedFact facts b)
+  -- "fact f is bit f mod 64 of word 1 + f div 64"
+  abbrev pub factWords : FactSet → List ℕ
+  factWords facts =
+      word 64 (λ b. numberedFact facts b)
       ∷ word 64 (λ b. numberedFact facts (64 + b))
       ∷ word 64 (λ b. numberedFact facts (128 + b))
       ∷ word 64 (λ b. numberedFact facts (192 + b))
       ∷ []
+
+  -- "word 0 has a bit for each input state the tree reaches"; "two marks in word 0"
+  unfoldable pub kindWords : RootMarks → (ℕ → Bool) → FactSet → List ℕ
+  kindWords marks reaches facts = withMarks marks (word (C .input .states) reaches) ∷ factWords facts
 
   -- what a kind's words say: the input states, the facts by number, the facts
   unfoldable pub stateIn : List ℕ → ℕ → Bool
@@ -77,15 +80,26 @@ module _ (C : Contract) where
   unfoldable pub factsIn : List ℕ → FactSet
   factsIn kind p q qs = bitOfFact kind (factNumber (C .output .states) (C .transformation .counts) p q qs)
 
+  -- what the rules of a symbol make, before any stay rule: of symbol 0, and of another over two kinds
+  unfoldable pub leafKind : List ℕ
+  leafKind = kindWords emptyMarks (reachedEmpty (C .input)) (factsAt (C .transformation) (C .output) (λ c. noFacts) 0)
+
+  unfoldable pub symbolKind : ℕ → List ℕ → List ℕ → List ℕ
+  symbolKind s l r =
+      kindWords (marksOver (marksIn r)) (reachedNext (C .input) s (stateIn l) (stateIn r))
+      (factsAt (C .transformation) (C .output) (onSide (factsIn l) (factsIn r)) s)
+
+  -- the facts closed under the stay rules; word 0 is kept
+  unfoldable pub stayKind : List ℕ → List ℕ
+  stayKind kind = getD kind 0 0 ∷ factWords (closedFacts (C .transformation) (C .output) (factsIn kind))
+
   -- the kind of the empty forest
   unfoldable pub emptyKind : List ℕ
-  emptyKind = kindWords emptyMarks (reachedEmpty (C .input)) (factsAt (C .transformation) (C .output) (λ c. noFacts) 0)
+  emptyKind = stayKind leafKind
 
   -- the kind of a symbol over two kinds
   unfoldable pub nextKind : ℕ → List ℕ → List ℕ → List ℕ
-  nextKind s l r =
-      kindWords (marksOver (marksIn r)) (reachedNext (C .input) s (stateIn l) (stateIn r))
-      (factsAt (C .transformation) (C .output) (onSide (factsIn l) (factsIn r)) s)
+  nextKind s l r = stayKind (symbolKind s l r)
 
   -- "The kind of a tree is five 64-bit words"
   unfoldable pub kindOf : Tree → List ℕ

@@ -1,6 +1,6 @@
 -- Document 01, sentence by sentence. Each definition quotes the words that it stands for. Published has source document 000's
 -- meaning; Refusals, Meaning and Demand have the statements that proofs/ proves. Shorter has change request W-207, Merging W-206 and
--- Examining W-211, each with definitions and statements.
+-- Examining W-211, each with definitions and statements; OtherContracts has what was before W-208, and that it stands.
 pub mod Trees
 pub mod Documents
 pub mod Rows
@@ -24,3 +24,4 @@ pub mod Meaning
 pub mod Demand
 pub mod Merging
 pub mod Examining
+pub mod OtherContracts

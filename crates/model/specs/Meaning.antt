@@ -238,12 +238,12 @@ pub record RanOutput (C : Contract) (numbers buffer : List ℕ) (root used taken
   pub room : used ≤ rowCount buffer
 
 -- why a run refuses: no rule, no row free, too many calls
-pub data RunRefusal (procedures free number place : ℕ) : Type 0 where
-  no-rule : number ≡ 13 → place < procedures → RunRefusal procedures free number place
-  no-row : number ≡ 14 → place ≡ free → RunRefusal procedures free number place
-  too-many-calls : number ≡ 15 → place ≡ mostCalls → RunRefusal procedures free number place
+pub data RunRefusal (procedures free most number place : ℕ) : Type 0 where
+  no-rule : number ≡ 13 → place < procedures → RunRefusal procedures free most number place
+  no-row : number ≡ 14 → place ≡ free → RunRefusal procedures free most number place
+  too-many-calls : number ≡ 15 → place ≡ most → RunRefusal procedures free most number place
 
 -- "Whichever comes first in that order of work is given, and the buffer is then all 0."
 pub record RunRefused (C : Contract) (numbers buffer : List ℕ) (number place : ℕ) : Type 0 where
-  pub reason : RunRefusal (length (C .transformation .counts)) (rowCount buffer) number place
+  pub reason : RunRefusal (length (C .transformation .counts)) (rowCount buffer) (mostCalls (C .transformation)) number place
   pub cleared : running C numbers buffer .rows ≡ replicate (length buffer) 0

@@ -1,4 +1,4 @@
--- The call-by-value meaning of macro tree transducers as source document 000 publishes it (section 2, after "we .. prefer a
+-- The call-by-value meaning of stay macro tree transducers as source document 000 publishes it (section 2, after "we .. prefer a
 -- denotational formulation"), equation by equation. proofs/Meaning/Published.antt proves that outputs are this meaning: `as-published`.
 use mathlib.Core.Path.{_≡_}
 use mathlib.Core.List.{List, [], _∷_, map}
@@ -7,7 +7,7 @@ use Prim.Native.Nat.{ℕ, _<_}
 use lib.ListN.{length, getD}
 use Rattle.model.specs.Trees.{Tree, empty, node, rootSymbol}
 use Rattle.model.specs.Tables.{Transformation, ruleAt, ruleCount, countOf}
-use Rattle.model.specs.Expressions.{Child, left, right, Expression, parameter, nothing, symbol, call, Arguments, none, argument}
+use Rattle.model.specs.Expressions.{Child, left, right, here, Expression, parameter, nothing, symbol, call, Arguments, none, argument}
 use Rattle.model.specs.Outputs.{rightSide, Output}
 
 -- "For a set Y = {y1, y2, ..} of variables of rank 0, T_Σ(Y) denotes the set of trees over Σ and Y": with one symbol of rank 0,
@@ -40,14 +40,16 @@ abbrev pub Meaning : Type 1
 Meaning = (q : ℕ) (s : Tree) (v : ParameterTree) → Type 0
 
 module _ (meaning : Meaning) where
-  -- [[q]](s′) where s′ is what x1 or x2 stands for in the tree s: its left or its right child
+  -- [[q]](s′) where s′ is what x0, x1 or x2 stands for in the tree s: the tree itself, its left or its right child
   abbrev pub OnChild : ℕ → Child → Tree → ParameterTree → Type 0
-  OnChild q c empty v = ⊥
+  OnChild q here s v = meaning q s v
+  OnChild q left empty v = ⊥
   OnChild q left (node a s₁ s₂) v = meaning q s₁ v
+  OnChild q right empty v = ⊥
   OnChild q right (node a s₁ s₂) v = meaning q s₂ v
 
   abbrev mutual
-    -- the set [[t]] of a right-hand side t, whose x1 and x2 stand for the children of s: v is in it
+    -- the set [[t]] of a right-hand side t, whose x0 stands for s, x1 and x2 for its children: v is in it
     pub Value : Expression → Tree → ParameterTree → Type 0
     -- "[[y_j]] = {y_j}"
     Value (parameter j) s v = v ≡ variable j
@@ -62,12 +64,15 @@ module _ (meaning : Meaning) where
     Values none s us = us ≡ []
     Values (argument t ts) s us = (x : ParameterTree) × (xs : List ParameterTree) × Value t s x × Values ts s xs × (us ≡ x ∷ xs)
 
--- "[[q]](a(s1, .., sd)) ⊇ [[t′[s1/x1, .., sd/xd]]] for rule q(a(x1, .., xd), y) → t′"
-abbrev pub Satisfies : Transformation → Meaning → Type 0
-Satisfies T meaning =
-    (r : ℕ) → r < ruleCount (T .rules)
-    → (s : Tree) → ruleAt (T .rules) r .symbol ≡ rootSymbol s
-    → (v : ParameterTree) → Value meaning (rightSide T r) s v → meaning (ruleAt (T .rules) r .procedure) s v
+-- [[q]](s) has all that rule r gives, which is one for q
+abbrev pub Has : Transformation → Meaning → (r : ℕ) → Tree → Type 0
+Has T meaning r s = (v : ParameterTree) → Value meaning (rightSide T r) s v → meaning (ruleAt (T .rules) r .procedure) s v
+
+pub record Satisfies (T : Transformation) (meaning : Meaning) : Type 0 where
+  -- "[[q]](s) ⊇ [[t[s/x0]]] for rule q(x0, y) → t": a stay rule, which "has symbol S"
+  pub stays : (r : ℕ) → r < ruleCount (T .rules) → ruleAt (T .rules) r .symbol ≡ T .symbols → (s : Tree) → Has T meaning r s
+  -- "[[q]](a(s1, .., sd)) ⊇ [[t′[s1/x1, .., sd/xd]]] for rule q(a(x1, .., xd), y) → t′"
+  pub moves : (r : ℕ) → r < ruleCount (T .rules) → (s : Tree) → ruleAt (T .rules) r .symbol ≡ rootSymbol s → Has T meaning r s
 
 -- "The values [[q]] for all q are jointly defined as the least functions satisfying"
 pub record Published (T : Transformation) : Type 1 where

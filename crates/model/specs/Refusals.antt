@@ -216,7 +216,7 @@ pub data AdmissionNumber (number : ℕ) : Type 0 where
   of-node : 30 ≤ number → number ≤ 34 → AdmissionNumber number
   of-rules-and-facts : 7 ≤ number → number ≤ 8 → AdmissionNumber number
 
--- "13, no rule (procedure); 14, a row is due and none is free ..; 15, a call past 65,536"
+-- "13, no rule (procedure); 14, a row is due and none is free ..; 15, a call past 65,536", or past 4,096
 abbrev pub NotOfRun : ℕ → Type 0
 NotOfRun number = 13 ≤ number → number ≤ 15 → ⊥
 

@@ -2,25 +2,40 @@
 -- and the closing row buffer.
 use mathlib.Core.Bool.{Bool, not, _&&_, _||_}
 use mathlib.Core.List.{List, [], _∷_, _++_}
-use Prim.Native.Nat.{ℕ, suc, _+_, _%_}
+use Prim.Native.Nat.{ℕ, zero, suc, _+_, _%_}
 use lib.Dec.{eqb, ltb}
 use lib.ListN.{length, getD, replicate}
 use Rattle.foundation.specs.Tests.{choose}
 use Rattle.foundation.specs.Search.{first}
 use Rattle.foundation.specs.Lists.{zeroFilled}
-use Rattle.model.specs.Trees.{Tree, empty, node}
+use Rattle.model.specs.Trees.{Tree, empty, node, rootSymbol}
 use Rattle.model.specs.Rows.{rowCount}
 use Rattle.model.specs.Tables.{Contract, Transformation, ruleAt, ruleCount}
-use Rattle.model.specs.Expressions.{Child, left, right, Expression, parameter, nothing, symbol, call, Arguments, none, argument}
+use Rattle.model.specs.Expressions.{Child, left, right, here, Expression, parameter, nothing, symbol, call, Arguments, none, argument}
 use Rattle.model.specs.Outputs.{rightSide}
-use Rattle.model.specs.Facts.{onSide}
 use Rattle.model.specs.Answers.{Verdict, refuseIf, _then_, Answer, ran, refusal, given}
 use Rattle.model.specs.Admission.{admission}
 use Rattle.model.specs.Documents.{numbersTaken, leadingTree, leadingVerdict}
 
--- "15, a call past 65,536"
-abbrev pub mostCalls : ℕ
-mostCalls = 65536
+-- rule r is one for procedure p and symbol s
+abbrev pub fits : List ℕ → (procedure symbol : ℕ) → ℕ → Bool
+fits rules p s r = eqb (ruleAt rules r .procedure) p && eqb (ruleAt rules r .symbol) s
+
+-- the first such rule, or the number of rules where there is none
+abbrev pub firstRule : List ℕ → (procedure symbol : ℕ) → ℕ
+firstRule rules p s = first (fits rules p s) (ruleCount rules)
+
+-- the first stay rule of any procedure, or the number of rules where there is none: it "has symbol S"
+abbrev pub firstStay : Transformation → ℕ
+firstStay T = first (λ r. eqb (ruleAt (T .rules) r .symbol) (T .symbols)) (ruleCount (T .rules))
+
+-- "where any stay rule is present"
+abbrev pub hasStays : Transformation → Bool
+hasStays T = ltb (firstStay T) (ruleCount (T .rules))
+
+-- "15, a call past 65,536"; "15 is given past 4,096 calls (place 4,096) where any stay rule is present"
+unfoldable pub mostCalls : Transformation → ℕ
+mostCalls T = choose (hasStays T) 4096 65536
 
 -- "Rows used and calls made are one small tally which each call brings forward."
 pub record Tally : Type 0 where
@@ -52,27 +67,38 @@ addRow free s l r w =
     (record { tally = record { used = suc (w .tally .used); calls = w .tally .calls }; rows = w .rows ++ (s ∷ l ∷ r ∷ []) }))
     (refused 14 free)
 
--- "the call is counted, the start included"; "15, a call past 65,536 (place 65,536)"
-unfoldable pub countCall : Work → Step (Unit {0})
-countCall w =
-    choose (ltb (w .tally .calls) mostCalls)
+-- "the call is counted, the start included"; "15, a call past 65,536 (place 65,536)", or past 4,096
+unfoldable pub countCall : (most : ℕ) → Work → Step (Unit {0})
+countCall most w =
+    choose (ltb (w .tally .calls) most)
     (made tt (record { tally = record { used = w .tally .used; calls = suc (w .tally .calls) }; rows = w .rows }))
-    (refused 15 mostCalls)
+    (refused 15 most)
 
--- "taking for each call the first rule listed"; "then its rule sought"; "13, no rule (procedure)"
+-- "then its rule sought"; "Running takes the first rule for the symbol, and the first stay rule only if there is none."; "13,
+-- no rule (procedure)"
 unfoldable pub seekRule : Transformation → (procedure symbol : ℕ) → Work → Step ℕ
 seekRule T p s w =
     let n : ℕ = ruleCount (T .rules) in
-    let r : ℕ = first (λ r. eqb (ruleAt (T .rules) r .procedure) p && eqb (ruleAt (T .rules) r .symbol) s) n in
-    choose (ltb r n) (made r w) (refused 13 p)
+    let r : ℕ = firstRule (T .rules) p s in
+    let stay : ℕ = firstRule (T .rules) p (T .symbols) in
+    choose (ltb r n) (made r w) (choose (ltb stay n) (made stay w) (refused 13 p))
 
 -- running a procedure with the rows of its parameters
 abbrev pub Runs : Type 0
 Runs = ℕ → List ℕ → Work → Step ℕ
 
--- a call under symbol 0, which no admitted contract has
+-- a call to a child under symbol 0, which no admitted contract has
 abbrev pub noRuns : Runs
 noRuns p ws w = refused 13 p
+
+-- running procedures on the tree that a call goes to
+abbrev pub onChild : (Tree → Runs) → Tree → Child → Runs
+onChild runs empty left = noRuns
+onChild runs empty right = noRuns
+onChild runs empty here = runs empty
+onChild runs (node s l r) left = runs l
+onChild runs (node s l r) right = runs r
+onChild runs (node s l r) here = runs (node s l r)
 
 module _ (T : Transformation) (free : ℕ) where
   -- "Running a procedure evaluates its right side, which runs procedures on the children. Left before right, arguments
@@ -90,15 +116,17 @@ module _ (T : Transformation) (free : ℕ) where
 
   -- a call on a tree of root symbol s
   unfoldable pub runAt : (Child → Runs) → ℕ → Runs
-  runAt runs s p ws w = countCall w after λ one w₁. seekRule T p s w₁ after λ r w₂. evaluate runs (rightSide T r) ws w₂
+  runAt runs s p ws w = countCall (mostCalls T) w after λ one w₁. seekRule T p s w₁ after λ r w₂. evaluate runs (rightSide T r) ws w₂
 
-  unfoldable pub runOn : Tree → Runs
-  runOn empty = runAt (λ c. noRuns) 0
-  runOn (node s l r) = runAt (onSide (runOn l) (runOn r)) s
+  -- a call on a tree, calls within each other going no deeper than so many: each is counted, so that a call where none is left
+  -- is one past the last
+  unfoldable pub runOn : ℕ → Tree → Runs
+  runOn zero t p ws w = refused 15 (mostCalls T)
+  runOn (suc calls) t p ws w = runAt (onChild (runOn calls) t) (rootSymbol t) p ws w
 
 -- "Procedure 0 is then called on the tree"
 unfoldable pub run : Transformation → ℕ → Tree → Step ℕ
-run T free t = runOn T free t 0 [] (record { tally = record { used = 0; calls = 0 }; rows = [] })
+run T free t = runOn T free (mostCalls T) t 0 [] (record { tally = record { used = 0; calls = 0 }; rows = [] })
 
 pub record Ran : Type 0 where
   pub answer : Answer

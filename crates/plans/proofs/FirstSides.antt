@@ -3,7 +3,7 @@
 use mathlib.Core.Path.{_≡_, refl, ap, sym, _∙_}
 use mathlib.Core.Bool.{Bool, true, false}
 use mathlib.Core.List.{List}
-use Prim.Native.Nat.{ℕ, suc, _+_, _*_, _-_, _<_}
+use Prim.Native.Nat.{ℕ, suc, _+_, _-_, _<_}
 use native.Mathlib.Nat.{not-suc-le-zero, add-zero, zero-add}
 use native.Mathlib.Omega.{arith}
 use native.Mathlib.Decide.{ℕ-discrete}
@@ -12,8 +12,9 @@ use lib.Seq.{getD-set-same, getD-set-other}
 use borrow.Author.Tests.{lt-ltb, le-ltb, eq-eqb}
 use Rattle.foundation.specs.Search.{first, first-at, first-none, first-cong}
 use Rattle.model.specs.Tables.{ruleAt, ruleCount}
-use Rattle.model.proofs.Laws.Rules.{fits, firstRule, fits-both}
-use Rattle.plans.specs.Plans.{sideAt, Sides}
+use Rattle.model.specs.Running.{fits, firstRule}
+use Rattle.model.proofs.Laws.Rules.{fits-both}
+use Rattle.plans.specs.Plans.{mostProcedures, ruleSymbols, mostNodes, entries, entryOf, sideAt, Sides}
 
 module _ (rules : List ℕ) where
   -- the first such rule from k on
@@ -49,36 +50,36 @@ module _ (rules : List ℕ) where
 
   -- a table of them
   pub record Listed (k : ℕ) (table : List ℕ) : Type 0 where
-    pub size : length table ≡ 256
-    pub entry : (p s : ℕ) → p < 16 → s < 16 → getD table (16 * p + s) 0 ≡ sideAt rules (firstFrom k p s)
+    pub size : length table ≡ entries
+    pub entry : (p s : ℕ) → p < mostProcedures → s < ruleSymbols → getD table (entryOf p s) 0 ≡ sideAt rules (firstFrom k p s)
 
-  none-side : sideAt rules (ruleCount rules) ≡ 256
+  none-side : sideAt rules (ruleCount rules) ≡ mostNodes
   none-side = rw (le-ltb (ruleCount rules) (ruleCount rules) (omega arith))
 
-  pub listed-none : (table : List ℕ) → length table ≡ 256 → ((i : ℕ) → i < 256 → getD table i 0 ≡ 256) → Listed (ruleCount rules) table
+  pub listed-none : (table : List ℕ) → length table ≡ entries → ((i : ℕ) → i < entries → getD table i 0 ≡ mostNodes) → Listed (ruleCount rules) table
   listed-none table n all =
-      record { size = n; entry = λ p s hp hs. all (16 * p + s) (omega arith) ∙ sym (ap (sideAt rules) (from-none p s) ∙ none-side) }
+      record { size = n; entry = λ p s hp hs. all (entryOf p s) (omega arith) ∙ sym (ap (sideAt rules) (from-none p s) ∙ none-side) }
 
   pub listed-all : (table : List ℕ) → Listed 0 table → Sides rules table
   listed-all table l p s hp hs = l .entry p s hp hs ∙ ap (sideAt rules) (from-zero p s)
 
   pub listed-more : (k : ℕ) (table : List ℕ) → k < ruleCount rules → Listed (suc k) table → (q t n : ℕ) → ruleAt rules k .procedure ≡ q → ruleAt rules k .symbol ≡ t
       → ruleAt rules k .node ≡ n
-      → q < 16
-      → t < 16
-      → Listed k (set table (16 * q + t) n)
+      → q < mostProcedures
+      → t < ruleSymbols
+      → Listed k (set table (entryOf q t) n)
   listed-more k table h l q t n eq et en hq ht =
-      record { size = length-set table (16 * q + t) n ∙ l .size; entry = λ p s hp hs. go p s hp hs (ℕ-discrete (16 * p + s) (16 * q + t)) }
+      record { size = length-set table (entryOf q t) n ∙ l .size; entry = λ p s hp hs. go p s hp hs (ℕ-discrete (entryOf p s) (entryOf q t)) }
     where
-      go : (p s : ℕ) → p < 16 → s < 16 → Dec (16 * p + s ≡ 16 * q + t) → getD (set table (16 * q + t) n) (16 * p + s) 0 ≡ sideAt rules (firstFrom k p s)
+      go : (p s : ℕ) → p < mostProcedures → s < ruleSymbols → Dec (entryOf p s ≡ entryOf q t) → getD (set table (entryOf q t) n) (entryOf p s) 0 ≡ sideAt rules (firstFrom k p s)
       go p s hp hs (yes e) =
           let ep : ruleAt rules k .procedure ≡ p = eq ∙ omega arith in
           let es : ruleAt rules k .symbol ≡ s = et ∙ omega arith in
           let here : sideAt rules k ≡ n = rw (lt-ltb k (ruleCount rules) h) en in
-          rw e (getD-set-same table (16 * q + t) n 0 (omega (arith, l .size)))
+          rw e (getD-set-same table (entryOf q t) n 0 (omega (arith, l .size)))
           ∙ sym (ap (sideAt rules) (from-hit k p s h (rw (eq-eqb _ _ ep, eq-eqb _ _ es))) ∙ here)
       go p s hp hs (no ne) =
-          getD-set-other table (16 * q + t) (16 * p + s) n 0 ne
+          getD-set-other table (entryOf q t) (entryOf p s) n 0 ne
           ∙ l .entry p s hp hs
           ∙ ap (sideAt rules) (sym (from-miss k p s h (miss (fits rules p s k) refl)))
         where

@@ -1,10 +1,10 @@
--- Numbers written over a list from a place on: what stands there, below it and behind it.
+-- Numbers written over a list from a place on: what stands there and below it.
 use mathlib.Core.Path.{_≡_, ap, sym, _∙_}
 use mathlib.Core.List.{List, _++_}
-use Prim.Native.Nat.{ℕ, _+_, _-_, _<_, _≤_}
+use Prim.Native.Nat.{ℕ, _+_, _<_, _≤_}
 use native.Mathlib.Omega.{arith}
 use lib.ListN.{length, getD, take, drop, length-take, List·getD-append}
-use lib.Seq.{length-paste, length-paste-head, getD-append-add, getD-take, getD-drop}
+use lib.Seq.{length-paste, length-paste-head, getD-append-add, getD-take}
 use Rattle.plans.specs.Plans.{overlaid}
 
 module _ (l : List ℕ) (at : ℕ) (new : List ℕ) (fits : at + length new ≤ length l) where
@@ -38,12 +38,3 @@ module _ (l : List ℕ) (at : ℕ) (new : List ℕ) (fits : at + length new ≤ 
       List·getD-append head tail 0 i (omega (arith, head-length))
       ∙ List·getD-append (take at l) (take (length new) new) 0 i (omega (arith, start-length))
       ∙ getD-take at l i 0 h
-
-  pub overlaid-behind : (i : ℕ) → at + length new ≤ i → getD (overlaid l at new) i 0 ≡ getD l i 0
-  unfolding overlaid
-  overlaid-behind i h =
-      let e : i ≡ length head + (i - (at + length new)) = omega (arith, head-length) in
-      ap (λ (n : ℕ). getD (head ++ tail) n 0) e
-      ∙ getD-append-add head tail (i - (at + length new)) 0
-      ∙ getD-drop (at + length new) l (i - (at + length new)) 0
-      ∙ ap (λ (n : ℕ). getD l n 0) (omega arith)

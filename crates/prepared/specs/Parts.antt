@@ -1,8 +1,12 @@
 -- Where the parts of a prepared table stand, and the contract that they are the tables of.
+use mathlib.Core.Path.{_≡_}
 use mathlib.Core.List.{List}
 use Prim.Native.Nat.{ℕ, _-_, _≤_}
 use lib.ListN.{length, take, drop}
-use Rattle.model.specs.Tables.{Contract, contract}
+use Rattle.foundation.specs.Tests.{choose}
+use Rattle.model.specs.Tables.{Contract, Transformation, contract}
+use Rattle.model.specs.Admission.{mostFacts}
+use Rattle.model.specs.Running.{hasStays}
 use Rattle.lanes.specs.Layouts.{layoutOf}
 use Rattle.kind_words.specs.Kind
 use Rattle.breaking.specs.Verdicts.{VerdictsOf}
@@ -22,6 +26,10 @@ contractIn p table =
 abbrev pub listsIn : Prepared → List ℕ → List ℕ
 listsIn p table = part table (p .rules) (length table)
 
+-- as many rounds of the stay rules close a kind as there may be facts; none are needed where there are no stay rules
+abbrev pub roundsOf : Transformation → ℕ
+roundsOf T = choose (hasStays T) mostFacts 0
+
 -- a table that is prepared for the contract in it
 pub record Ready (p : Prepared) (table : List ℕ) : Type 0 where
   pub toRows : p .counts ≤ p .rows
@@ -32,4 +40,5 @@ pub record Ready (p : Prepared) (table : List ℕ) : Type 0 where
   pub toRules : p .nodes ≤ p .rules
   pub inside : p .rules ≤ length table
   pub prepared : Kind.Prepared (contractIn p table) (layoutOf (p .layout)) (p .offsets) (listsIn p table)
+  pub rounds : p .rounds ≡ roundsOf (contractIn p table .transformation)
   pub verdicts : VerdictsOf (contractIn p table .input .marks) (contractIn p table .output .marks) (p .verdicts)

@@ -3,7 +3,7 @@
 // breaking kind.
 ghost use mathlib.Core.Path.{_≡_};
 ghost use Prim.Native.Nat.{_<_};
-ghost use Rattle.kind_words.specs.Sizes.{mostSymbols, nextRows};
+ghost use Rattle.kind_words.specs.Sizes.{ruleSymbols, nextRows};
 ghost use Rattle.kind_words.specs.Kind.{listOf};
 ghost use Rattle.prepared.specs.Parts.{contractIn, listsIn, Ready};
 use breaking::Verdicts;
@@ -12,9 +12,12 @@ use chains::rows_from;
 use lanes::Layout;
 use tables::Symbol;
 
+// `rounds` is how many rounds of the stay rules close a kind: none where there are no stay rules.
+//
 // From place 0 the table has the parameter counts, the input rows, the input marks, the output table, the output marks, the
 // nodes and the rules, each to the end that is named after it; behind the rules the lists by symbol.
 pub struct Prepared {
+    pub rounds: usize,
     pub symbols: usize,
     pub states: usize,
     pub layout: Layout,
@@ -89,7 +92,7 @@ pub fn lists_in(prepared: Prepared, table: &[u16]) -> &[u16]
 
 // The list of the symbol: the nodes that its rules reach.
 pub fn list_in(prepared: Prepared, table: &[u16], symbol: Symbol) -> &[u16]
-    requires { ⌜ Ready prepared (now table) × (symbol .0 < mostSymbols) ⌝ }
+    requires { ⌜ Ready prepared (now table) × (symbol .0 < ruleSymbols) ⌝ }
     ensures { λ r. ⌜ now r ≡ listOf (listsIn prepared (now (table .entry))) (symbol .0) ⌝ }
 {
     list_of(lists_in(prepared, table), symbol)

@@ -4,15 +4,20 @@ ghost use Prim.Native.Nat.{ℕ, _+_, _*_, _^_, _<_, _≤_};
 ghost use lib.ListN.{length};
 ghost use Rattle.model.specs.Tables.{contract};
 ghost use Rattle.model.proofs.Laws.Established.{Established};
+ghost use Rattle.kind_words.specs.Sizes.{ruleSymbols, nextRules};
+ghost use Rattle.kind_words.specs.Kind.{RulesChained};
 ghost use Rattle.classes.specs.Masks.{Covered};
-ghost use Rattle.preparing.specs.Packing.{Appended, Packed, LaidOut, Prepares, packedLength, preparedLength, Short};
+ghost use Rattle.preparing.specs.Packing.{roundsBy, Appended, Packed, LaidOut, Prepares, packedLength, preparedLength, Short};
 use breaking::verdicts_of;
+use chains::has_rules;
+use lanes::entry_of;
 use layouts::layout_of;
 use layouts::offsets_of;
 use masks::masks_of;
 use prepared::Prepared;
 use reaching::fill_lists;
 use reaching::lists_length;
+use tables::Symbol;
 
 // Where the tables of a contract end that stand one behind another.
 pub struct Ends {
@@ -94,8 +99,22 @@ pub fn table_length(
 }
 
 // Room for every prepared contract; in a function of its own, so that proofs see its length alone.
-pub fn most_table() -> [u16; 9344] {
-    [0u16; 9344]
+pub fn most_table() -> [u16; 9604] {
+    [0u16; 9604]
+}
+
+// The most facts: so many rounds of the stay rules close a kind.
+const FACTS: usize = 256;
+
+// How many rounds of the stay rules close a kind; they have this symbol.
+fn stay_rounds(rules: &[u16], lists: &[u16], stay: Symbol) -> usize
+    requires { ⌜ RulesChained (now rules) (now lists) × (stay .0 < ruleSymbols) × (nextRules ≤ length (now lists)) ⌝ }
+    ensures { λ r. ⌜ r ≡ roundsBy (now (rules .entry)) (stay .0) ⌝ }
+{
+    if has_rules(rules, lists, stay) {
+        return FACTS;
+    }
+    0
 }
 
 // Lays out an admitted contract in a table: its tables, and behind them the lists by symbol.
@@ -130,6 +149,7 @@ fn lay_out(
     Prepared {
         symbols: symbols,
         states: input_states,
+        rounds: stay_rounds(rules, &table[lists..], Symbol(entry_of(symbols))),
         layout: layout_of(output_states, counts),
         offsets: offsets_of(output_states, counts),
         verdicts: verdicts_of(input_marks, output_marks),

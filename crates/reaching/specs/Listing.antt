@@ -12,7 +12,7 @@ use lib.Seq.{getD-set-same, getD-set-other}
 use Rattle.foundation.specs.Tests.{choose}
 use Rattle.model.specs.Tables.{inputRow, inputRowCount, nodeCount, ruleAt, ruleCount}
 use Rattle.model.proofs.Laws.Established.{GoodNodes}
-use Rattle.kind_words.specs.Sizes.{mostSymbols, listLengths, firstRules, firstRows, nextRules, nextRows}
+use Rattle.kind_words.specs.Sizes.{ruleSymbols, listLengths, firstRules, firstRows, nextRules, nextRows}
 use Rattle.kind_words.specs.Listed.{at, Before, ListOf, before-same, list-same}
 use Rattle.kind_words.specs.Chains.{chained-same}
 use Rattle.kind_words.specs.Kind.{listed, listLength, listOf, ListInside, withList, list-length, list-at, ListsFor, RulesChained}
@@ -156,7 +156,7 @@ symbol-listed counts nodes rules s start ruleMarks marks before lists n good rul
     }
 
 -- a symbol without rules
-pub none-listed : (counts nodes rules : List ℕ) (s start : ℕ) (lists : List ℕ) → RulesChained rules lists → s < mostSymbols
+pub none-listed : (counts nodes rules : List ℕ) (s start : ℕ) (lists : List ℕ) → RulesChained rules lists → s < ruleSymbols
     → (getD lists (firstRules + s) 0 < ruleCount rules → ⊥)
     → SymbolListed counts nodes rules s start lists lists 0
 none-listed counts nodes rules s start lists chained small none =
@@ -179,7 +179,7 @@ counted-small mark = go (eqb mark 1)
 pub record ListedTo (counts nodes rules : List ℕ) (start s end : ℕ) (before lists : List ℕ) : Type 0 where
   pub long : length lists ≡ length before
   pub after : start ≤ end
-  pub room : end + (mostSymbols - s) * nodeCount nodes ≤ length before
+  pub room : end + (ruleSymbols - s) * nodeCount nodes ≤ length before
   pub begins : (t : ℕ) → t < s → start ≤ getD lists t 0
   pub inside : (t : ℕ) → t < s → getD lists t 0 + listLength lists t ≤ end
   pub list : (t : ℕ) → t < s → ListOf counts nodes (listed lists t) (listLength lists t)
@@ -187,7 +187,7 @@ pub record ListedTo (counts nodes rules : List ℕ) (start s end : ℕ) (before 
       → Before (listed lists (ruleAt rules r .symbol)) (listLength lists (ruleAt rules r .symbol)) (ruleAt rules r .node)
   pub kept : (j : ℕ) → firstRules ≤ j → j < start → getD lists j 0 ≡ getD before j 0
 
-pub listed-none : (counts nodes rules : List ℕ) (start : ℕ) (lists : List ℕ) → start + mostSymbols * nodeCount nodes ≤ length lists → ListedTo counts nodes rules start 0 start lists lists
+pub listed-none : (counts nodes rules : List ℕ) (start : ℕ) (lists : List ℕ) → start + ruleSymbols * nodeCount nodes ≤ length lists → ListedTo counts nodes rules start 0 start lists lists
 listed-none counts nodes rules start lists room =
     record {
       long = refl;
@@ -201,21 +201,21 @@ listed-none counts nodes rules start lists room =
     }
 
 -- room for the lists of the symbols from s on is room for one and for the rest
-rest-room : (s end k room : ℕ) → s < mostSymbols → end + (mostSymbols - s) * k ≤ room → end + k + (mostSymbols - (s + 1)) * k ≤ room
+rest-room : (s end k room : ℕ) → s < ruleSymbols → end + (ruleSymbols - s) * k ≤ room → end + k + (ruleSymbols - (s + 1)) * k ≤ room
 rest-room s end k room small h =
-    let e : mostSymbols - s ≡ suc (mostSymbols - (s + 1)) = omega arith in
-    let r : end + suc (mostSymbols - (s + 1)) * k ≤ room = rw e at h in
+    let e : ruleSymbols - s ≡ suc (ruleSymbols - (s + 1)) = omega arith in
+    let r : end + suc (ruleSymbols - (s + 1)) * k ≤ room = rw e at h in
     omega arith
 
 -- there is room for one more list
-pub list-room : (counts nodes rules : List ℕ) (start s end : ℕ) (before lists : List ℕ) → ListedTo counts nodes rules start s end before lists → s < mostSymbols
+pub list-room : (counts nodes rules : List ℕ) (start s end : ℕ) (before lists : List ℕ) → ListedTo counts nodes rules start s end before lists → s < ruleSymbols
     → end + nodeCount nodes ≤ length lists
 list-room counts nodes rules start s end before lists h small = omega (arith, rest-room s end (nodeCount nodes) (length before) small (h .room), h .long)
 
 -- one symbol more
 module _ (counts nodes rules : List ℕ) (start s end : ℕ) (before lists lists′ : List ℕ) (n : ℕ) (h : ListedTo counts nodes rules start s end before lists)
     (new : SymbolListed counts nodes rules s end lists lists′ n)
-    (small : s < mostSymbols)
+    (small : s < ruleSymbols)
     (base : nextRules ≤ start) where
   abbrev stored : List ℕ
   stored = withList lists′ s end n
@@ -249,7 +249,7 @@ module _ (counts nodes rules : List ℕ) (start s end : ℕ) (before lists lists
       ∙ getD-set-other (set lists′ s end) (listLengths + s) (end + i) n 0 (λ e. omega (arith, h .after))
       ∙ getD-set-other lists′ s (end + i) end 0 (λ e. omega (arith, h .after))
 
-  room-left : end + n + (mostSymbols - (s + 1)) * nodeCount nodes ≤ length before
+  room-left : end + n + (ruleSymbols - (s + 1)) * nodeCount nodes ≤ length before
   room-left = omega (arith, rest-room s end (nodeCount nodes) (length before) small (h .room), new .few)
 
   pub listed-more : (table : List ℕ) → table ≡ stored → ListedTo counts nodes rules start (s + 1) (end + n) before table
@@ -319,13 +319,13 @@ rules-through rules rows from before ofRules ofRows e a b =
     })
     (a .chained)
 
--- all sixteen, after the chains of rules and of input rows
+-- all that rules may have, after the chains of rules and of input rows
 pub listed-all : (counts nodes rules rows : List ℕ) (start end from : ℕ) (before ofRules ofRows lists : List ℕ) → RulesGood nodes rules
     → from ≡ nextRows rules
     → start ≡ nextRows rules + inputRowCount rows
     → Chaining (λ r. ruleAt rules r .symbol) (ruleCount rules) firstRules nextRules 0 before ofRules
     → Chaining (λ r. inputRow rows r .symbol) (inputRowCount rows) firstRows from 0 ofRules ofRows
-    → ListedTo counts nodes rules start mostSymbols end ofRows lists
+    → ListedTo counts nodes rules start ruleSymbols end ofRows lists
     → ListsFor counts nodes rules rows lists
 listed-all counts nodes rules rows start end from before ofRules ofRows lists good ef es rulesChained rowsChained h =
     record {
@@ -336,16 +336,16 @@ listed-all counts nodes rules rows start end from before ofRules ofRows lists go
           rw (list-length lists s own) (list-same (listed lists s) (at (listOf lists s)) (listLength lists s) (list-at lists s own) counts nodes (h .list s l));
       onList = λ r l.
           let s : ℕ = ruleAt rules r .symbol in
-          let k : s < mostSymbols = good .symbol r l in
+          let k : s < ruleSymbols = good .symbol r l in
           let own = within s k in
           rw (list-length lists s own)
           (before-same (listed lists s) (at (listOf lists s)) (listLength lists s) (list-at lists s own) (listLength lists s) (ruleAt rules r .node) (omega arith) (h .onList r l k));
-      ofRules = rules-kept counts nodes rules start mostSymbols end ofRows lists h (omega arith) (rules-through rules rows from before ofRules ofRows ef rulesChained rowsChained);
+      ofRules = rules-kept counts nodes rules start ruleSymbols end ofRows lists h (omega arith) (rules-through rules rows from before ofRules ofRows ef rulesChained rowsChained);
       ofRows =
           chained-same _ _ firstRows (nextRows rules) 0 ofRows lists
           (record { first = λ t l. h .kept (firstRows + t) (omega arith) (omega arith); next = λ r l. h .kept (nextRows rules + r) (omega arith) (omega arith) })
           (rw (← ef) (rowsChained .chained));
     }
   where
-    within : (s : ℕ) → s < mostSymbols → ListInside lists s
+    within : (s : ℕ) → s < ruleSymbols → ListInside lists s
     within s l = omega (arith, h .inside s l, h .room, h .long)

@@ -12,19 +12,19 @@ use lib.Seq.{getD-set-same, getD-set-other, set-out}
 use Rattle.foundation.specs.Tests.{choose}
 use Rattle.model.specs.Tables.{Contract, Node, inputRow, inputRowCount, nodeAt, nodeCount, ruleAt, ruleCount}
 use Rattle.model.specs.Admission.{references}
-use Rattle.kind_words.specs.Sizes.{mostSymbols, mostRows, mostRules}
+use Rattle.kind_words.specs.Sizes.{ruleSymbols, mostRows, mostRules}
 use Rattle.kind_words.specs.Chains.{NextFrom}
 use Rattle.model.proofs.Laws.Established.{Established, GoodNode, GoodNodes, good-parameter, good-nothing, good-symbol, good-call}
 
 -- the rules of an admitted contract
 pub record RulesGood (nodes rules : List ℕ) : Type 0 where
   pub node : (r : ℕ) → r < ruleCount rules → ruleAt rules r .node < nodeCount nodes
-  pub symbol : (r : ℕ) → r < ruleCount rules → ruleAt rules r .symbol < mostSymbols
+  pub symbol : (r : ℕ) → r < ruleCount rules → ruleAt rules r .symbol < ruleSymbols
   pub few : ruleCount rules ≤ mostRules
 
 -- and its input rows
 pub record RowsGood (rows : List ℕ) : Type 0 where
-  pub symbol : (r : ℕ) → r < inputRowCount rows → inputRow rows r .symbol < mostSymbols
+  pub symbol : (r : ℕ) → r < inputRowCount rows → inputRow rows r .symbol < ruleSymbols
   pub few : inputRowCount rows ≤ mostRows
 
 pub rules-good : (C : Contract) → Established C → RulesGood (C .transformation .nodes) (C .transformation .rules)

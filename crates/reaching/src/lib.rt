@@ -3,11 +3,10 @@
 ghost use mathlib.Core.Path.{_≡_};
 ghost use mathlib.Core.Bool.{true};
 ghost use Prim.Native.Nat.{ℕ, _+_, _*_, _/_, _<_, _≤_};
-ghost use lib.ListN.{length, getD};
-ghost use lib.Dec.{ltb};
+ghost use lib.ListN.{length};
 ghost use Rattle.model.specs.Tables.{inputRowCount, nodeCount, ruleAt, ruleCount};
 ghost use Rattle.model.proofs.Laws.Established.{GoodNodes};
-ghost use Rattle.kind_words.specs.Sizes.{mostSymbols, mostRows, mostNodes, mostRules, firstRules, nextRules, nextRows};
+ghost use Rattle.kind_words.specs.Sizes.{ruleSymbols, mostRows, mostNodes, mostRules, nextRows};
 ghost use Rattle.kind_words.specs.Kind.{ListsFor, RulesChained, listsLength};
 ghost use Rattle.reaching.specs.Marks.{markedIf, referredMarked, Closed, RulesMarked, counted, RulesGood, RowsGood};
 ghost use Rattle.reaching.specs.Listing.{Listing, SymbolListed, ListedTo};
@@ -15,11 +14,12 @@ use chains::LISTS;
 use chains::chain_rows;
 use chains::chain_rules;
 use chains::first_rule;
+use chains::has_rules;
 use chains::rows_from;
 use chains::rule_after;
 use chains::store_list;
 use lanes::NODES;
-use lanes::SYMBOLS;
+use lanes::RULE_SYMBOLS;
 use lanes::entry_of;
 use lanes::place;
 use tables::Symbol;
@@ -76,7 +76,7 @@ fn mark_rule(rules: &[u16], marks: &mut [u16], r: usize)
 
 // Marks the nodes of the rules for the symbol: the rules in the symbol's chain.
 fn mark_rules(rules: &[u16], lists: &[u16], symbol: Symbol, marks: &mut [u16])
-    requires { ⌜ ((r : ℕ) → r < ruleCount (now rules) → ruleAt (now rules) r .node < length (now marks)) × RulesChained (now rules) (now lists) × (nextRows (now rules) ≤ length (now lists)) × (symbol .0 < mostSymbols) ⌝ }
+    requires { ⌜ ((r : ℕ) → r < ruleCount (now rules) → ruleAt (now rules) r .node < length (now marks)) × RulesChained (now rules) (now lists) × (nextRows (now rules) ≤ length (now lists)) × (symbol .0 < ruleSymbols) ⌝ }
     ensures { λ _. ⌜ RulesMarked (now (rules .entry)) (symbol .0) (ruleCount (now (rules .entry))) (now (marks .exit)) ⌝ }
 {
     let n = rules.len() / 3;
@@ -112,14 +112,6 @@ fn list_marked(marks: &[u16], count: usize, lists: &mut [u16], start: usize) -> 
     listed
 }
 
-// Whether there is a rule for the symbol.
-fn has_rules(rules: &[u16], lists: &[u16], symbol: Symbol) -> bool
-    requires { ⌜ (symbol .0 < mostSymbols) × (nextRules ≤ length (now lists)) ⌝ }
-    ensures { λ r. ⌜ r ≡ ltb (getD (now (lists .entry)) (firstRules + symbol .0) 0) (ruleCount (now (rules .entry))) ⌝ }
-{
-    first_rule(lists, symbol) < rules.len() / 3
-}
-
 // Lists the nodes that the rules for a symbol reach, with room for marks, and returns how many they are.
 fn list_reached(
     counts: &[u16],
@@ -130,7 +122,7 @@ fn list_reached(
     lists: &mut [u16],
     start: usize,
 ) -> usize
-    requires { ⌜ GoodNodes (now counts) (now nodes) × RulesGood (now nodes) (now rules) × (symbol .0 < mostSymbols) × RulesChained (now rules) (now lists) × (nextRows (now rules) ≤ start) × (start + nodeCount (now nodes) ≤ length (now lists)) × (nodeCount (now nodes) ≤ length (now marks)) ⌝ }
+    requires { ⌜ GoodNodes (now counts) (now nodes) × RulesGood (now nodes) (now rules) × (symbol .0 < ruleSymbols) × RulesChained (now rules) (now lists) × (nextRows (now rules) ≤ start) × (start + nodeCount (now nodes) ≤ length (now lists)) × (nodeCount (now nodes) ≤ length (now marks)) ⌝ }
     ensures { λ r. ⌜ SymbolListed (now (counts .entry)) (now (nodes .entry)) (now (rules .entry)) (symbol .0) start (now (lists .entry)) (now (lists .exit)) r ⌝ }
 {
     mark_rules(rules, lists, symbol, marks);
@@ -148,7 +140,7 @@ fn list_symbol(
     lists: &mut [u16],
     start: usize,
 ) -> usize
-    requires { ⌜ GoodNodes (now counts) (now nodes) × RulesGood (now nodes) (now rules) × (symbol .0 < mostSymbols) × RulesChained (now rules) (now lists) × (nextRows (now rules) ≤ start) × (start + nodeCount (now nodes) ≤ length (now lists)) ⌝ }
+    requires { ⌜ GoodNodes (now counts) (now nodes) × RulesGood (now nodes) (now rules) × (symbol .0 < ruleSymbols) × RulesChained (now rules) (now lists) × (nextRows (now rules) ≤ start) × (start + nodeCount (now nodes) ≤ length (now lists)) ⌝ }
     ensures { λ r. ⌜ SymbolListed (now (counts .entry)) (now (nodes .entry)) (now (rules .entry)) (symbol .0) start (now (lists .entry)) (now (lists .exit)) r ⌝ }
 {
     if has_rules(rules, lists, symbol) {
@@ -170,12 +162,12 @@ fn list_nodes(
     lists: &mut [u16],
     start: usize,
 ) -> usize
-    requires { ⌜ GoodNodes (now counts) (now nodes) × RulesGood (now nodes) (now rules) × RulesChained (now rules) (now lists) × (nextRows (now rules) ≤ start) × (start + mostSymbols * nodeCount (now nodes) ≤ length (now lists)) × (length (now lists) < 65536) ⌝ }
-    ensures { λ r. ⌜ ListedTo (now (counts .entry)) (now (nodes .entry)) (now (rules .entry)) start mostSymbols r (now (lists .entry)) (now (lists .exit)) ⌝ }
+    requires { ⌜ GoodNodes (now counts) (now nodes) × RulesGood (now nodes) (now rules) × RulesChained (now rules) (now lists) × (nextRows (now rules) ≤ start) × (start + ruleSymbols * nodeCount (now nodes) ≤ length (now lists)) × (length (now lists) < 65536) ⌝ }
+    ensures { λ r. ⌜ ListedTo (now (counts .entry)) (now (nodes .entry)) (now (rules .entry)) start ruleSymbols r (now (lists .entry)) (now (lists .exit)) ⌝ }
 {
     let mut end: usize = start;
     let mut s: u16 = 0;
-    while place(s) < SYMBOLS {
+    while place(s) < RULE_SYMBOLS {
         let count = list_symbol(counts, nodes, rules, Symbol(s), lists, end);
         store_list(lists, Symbol(s), end, count);
         end += count;
@@ -197,7 +189,7 @@ pub fn lists_length(rows: &[u16], nodes: &[u16], rules: &[u16]) -> usize
     requires { ⌜ (inputRowCount (now rows) ≤ mostRows) × (nodeCount (now nodes) ≤ mostNodes) × (ruleCount (now rules) ≤ mostRules) ⌝ }
     ensures { λ r. ⌜ r ≡ listsLength (now (rows .entry)) (now (nodes .entry)) (now (rules .entry)) ⌝ }
 {
-    nodes_from(rules, rows) + SYMBOLS * (nodes.len() / 5)
+    nodes_from(rules, rows) + RULE_SYMBOLS * (nodes.len() / 5)
 }
 
 // Room for the table of lists of every contract; in a function of its own, so that proofs see its length alone.

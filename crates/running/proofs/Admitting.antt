@@ -23,7 +23,7 @@ use Rattle.answers.specs.declared.DocumentFault.the-variants as fault
 use Rattle.answers.specs.declared.ContractFault.{ContractFault}
 use Rattle.answers.specs.Numbers.{contractRefusal, documentRefusal}
 use Rattle.model.proofs.Laws.Documents.{Document, some-number}
-use Rattle.model.proofs.Laws.Established.{Between, Established}
+use Rattle.model.proofs.Laws.Established.{Established}
 use Rattle.model.proofs.Laws.Answers.{refuse-if-fine, then-fine, given-stopped}
 use Rattle.model.proofs.Laws.Admitted.{established, admit-fine}
 use Rattle.answers.proofs.Answered.{refused-as}
@@ -107,14 +107,10 @@ module _ (C : Contract) (numbers buffer : List ℕ) where
     known : Established C
     known = established C (admit-fine C (sym passed))
 
-    pub symbols-known : Between 1 16 (C .transformation .symbols)
-    symbols-known = known .symbols
-
-    pub tables-known : Admitted (C .transformation .counts) (C .transformation .nodes) (C .transformation .rules)
+    pub tables-known : Admitted (C .transformation)
     tables-known =
         record {
-          symbols = C .transformation .symbols;
-          symbolsFew = known .symbols .≤most;
+          symbols = known .symbols;
           procedures = known .procedures;
           nodesLong = omega (arith, known .nodes .whole, known .nodes .few);
           nodesFew = known .nodes .few;

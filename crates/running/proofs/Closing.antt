@@ -10,8 +10,9 @@ use types.Run.{OneOf}
 use denote.Enum.Declared.{tagOf}
 use Rattle.foundation.specs.Lists.{zeroFilled}
 use Rattle.model.specs.Rows.{rowCount}
+use Rattle.model.specs.Tables.{Transformation}
 use Rattle.model.specs.Documents.{documentTree}
-use Rattle.model.specs.Running.{Step, run, closing}
+use Rattle.model.specs.Running.{Step, mostCalls, run, closing}
 use Rattle.answers.specs.declared.RunningAnswer.{RunningAnswer}
 use Rattle.answers.specs.Numbers.{runningAnswer}
 use Rattle.plans.specs.Plans.{SmallRules, Laid}
@@ -26,7 +27,7 @@ use Rattle.running.specs.declared.Ended.{Ended}
 use Rattle.running.specs.Work.{stepOf, endedOf, numbersKept, endAnswer}
 use Rattle.running.proofs.End.{the-type}
 use Rattle.running.specs.Places.{ReadDocument}
-use Rattle.running.specs.Contracts.{Admitted, CallableIn, Calls, Closes, transformationOf}
+use Rattle.running.specs.Contracts.{Admitted, CallableIn, Calls, Closes}
 
 module _ (n taken free : ℕ) (before : Tally) where
   closed-answer : (x : Outcome) (o : List ℕ) → closing n taken (stepOf free x o) .answer ≡ endAnswer free taken (endedOf before x .end) (endedOf before x .tally)
@@ -34,7 +35,7 @@ module _ (n taken free : ℕ) (before : Tally) where
   closed-answer (Made row tally) o = refl
   closed-answer (NoRule procedure) o = refl
   closed-answer NoRow o = refl
-  closed-answer TooManyCalls o = refl
+  closed-answer (TooManyCalls most) o = refl
 
   none-kept : (o : List ℕ) → replicate n 0 ≡ zeroFilled n (take 0 o)
   unfolding zeroFilled
@@ -45,7 +46,7 @@ module _ (n taken free : ℕ) (before : Tally) where
   closed-rows (Made row tally) o = refl
   closed-rows (NoRule procedure) o = none-kept o
   closed-rows NoRow o = none-kept o
-  closed-rows TooManyCalls o = none-kept o
+  closed-rows (TooManyCalls most) o = none-kept o
 
 abbrev pub Refused : End → Type 0
 Refused x = OneOf (1 ∷ 2 ∷ 3 ∷ []) (tagOf the-type x)
@@ -60,43 +61,42 @@ pub refused-keeps : (x : End) (tally : Tally) → Refused x → numbersKept x ta
 refused-keeps (Root root) tally h = absurd (root-not-refused root h)
 refused-keeps (NoRuleEnd procedure) tally h = refl
 refused-keeps NoRowEnd tally h = refl
-refused-keeps TooManyCallsEnd tally h = refl
+refused-keeps (TooManyCallsEnd most) tally h = refl
 
-module _ (counts nodes rules numbers buffer : List ℕ) (x : Outcome) (left : List ℕ)
-    (called : Calls counts nodes rules numbers 0 0 0 0 buffer (record { used = 0; calls = 0 }) x left) where
+module _ (T : Transformation) (numbers buffer : List ℕ) (x : Outcome) (left : List ℕ) (called : Calls T numbers 0 0 0 0 buffer (record { used = 0; calls = 0 }) x left) where
   abbrev free : ℕ
   free = rowCount buffer
 
   abbrev work : Ended
   work = endedOf (record { used = 0; calls = 0 }) x
 
-  ran-to : (S : ℕ) → run (transformationOf counts nodes rules S) free (documentTree numbers) ≡ stepOf free x left
+  ran-to : run T free (documentTree numbers) ≡ stepOf free x left
   unfolding run
-  ran-to S = rw (document-tree numbers) (called S free [] refl (record { one = refl; two = refl }))
+  ran-to = rw (document-tree numbers) (called free (mostCalls T) [] refl (omega arith) (record { one = refl; two = refl }))
 
   pub closes : (r : RunningAnswer) (o : List ℕ) → runningAnswer r ≡ endAnswer free (length numbers) (work .end) (work .tally) → o ≡ zeroFilled (length buffer) (take (numbersKept (work .end) (work .tally)) left)
-      → Closes counts nodes rules numbers buffer r o
-  closes r o answered kept S =
+      → Closes T numbers buffer r o
+  closes r o answered kept =
       record {
-        answered = answered ∙ sym (closed-answer (length buffer) (length numbers) free _ x left) ∙ ap (λ (s : Step ℕ). closing (length buffer) (length numbers) s .answer) (sym (ran-to S));
-        left = kept ∙ sym (closed-rows (length buffer) (length numbers) free _ x left) ∙ ap (λ (s : Step ℕ). closing (length buffer) (length numbers) s .rows) (sym (ran-to S));
+        answered = answered ∙ sym (closed-answer (length buffer) (length numbers) free _ x left) ∙ ap (λ (s : Step ℕ). closing (length buffer) (length numbers) s .answer) (sym ran-to);
+        left = kept ∙ sym (closed-rows (length buffer) (length numbers) free _ x left) ∙ ap (λ (s : Step ℕ). closing (length buffer) (length numbers) s .rows) (sym ran-to);
       }
 
 -- the rules of an admitted transformation have room in a plan
-pub small-rules : {counts nodes rules : List ℕ} → Admitted counts nodes rules → SmallRules rules
-small-rules admitted =
+pub small-rules : (T : Transformation) → Admitted T → SmallRules (T .rules)
+small-rules T admitted =
     record {
       procedure = λ r h. let good = admitted .rule r h in omega (arith, good .procedure, admitted .procedures .≤most);
-      symbol = λ r h. let good = admitted .rule r h in omega (arith, good .symbol, admitted .symbolsFew);
+      symbol = λ r h. let good = admitted .rule r h in omega (arith, good .symbol, admitted .symbols .≤most);
     }
 
 -- procedure 0 may be called on the whole document
-abbrev pub callable : {counts nodes rules numbers ends plan : List ℕ} → Admitted counts nodes rules → ReadDocument numbers → EndsFrom 0 numbers ends
-    → Laid counts nodes rules numbers ends plan
+abbrev pub callable : {T : Transformation} {numbers ends plan : List ℕ} → Admitted T → ReadDocument numbers → EndsFrom 0 numbers ends
+    → Laid T numbers ends plan
     → CallableIn plan 0 0
-callable {counts = counts} {nodes = nodes} {rules = rules} {numbers = numbers} {ends = ends} tables read end laid =
+callable {T = T} {numbers = numbers} {ends = ends} tables read end laid =
     record {
-      known = record { counts = counts; nodes = nodes; rules = rules; numbers = numbers; ends = ends; tables = tables; text = record { read = read; end = end }; laid = laid };
+      known = record { transformation = T; numbers = numbers; ends = ends; tables = tables; text = record { read = read; end = end }; laid = laid };
       inside = read .some;
       named = omega (arith, tables .procedures .least≤);
     }

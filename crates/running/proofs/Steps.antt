@@ -1,62 +1,82 @@
--- The steps of evaluating a node, by how many operands it has, and of calling a procedure.
-use mathlib.Core.Path.{_≡_, refl, _∙_}
+-- The steps of evaluating a node, which are those of its operands and what it does with their rows, and of calling a procedure.
+use mathlib.Core.Path.{_≡_, refl, sym, _∙_}
 use mathlib.Core.Bool.{Bool, true, false, true≢false}
 use mathlib.Core.List.{List, [], _∷_}
-use Prim.Native.Nat.{ℕ, zero, suc, _-_, _<_, _≤_}
+use Prim.Native.Nat.{ℕ, zero, suc, _+_, _-_, _<_, _≤_}
 use native.Mathlib.Nat.{not-suc-le-zero}
 use native.Mathlib.Omega.{arith}
+use native.Mathlib.Decide.{ℕ-discrete}
+use lib.Dec.{eqb}
 use lib.ListN.{length, getD}
-use borrow.Author.Tests.{ne-eqb}
-use Rattle.foundation.specs.Tests.{_or_}
-use Rattle.model.specs.Trees.{Tree, empty, node, rootSymbol}
+use borrow.Author.Tests.{lt-ltb, le-ltb, ne-eqb}
+use Rattle.foundation.specs.Tests.{choose}
+use Rattle.model.specs.Trees.{Tree, rootSymbol}
 use Rattle.model.specs.Tables.{Transformation, Node, nodeAt, countOf}
-use Rattle.model.specs.Expressions.{Child, childOf, Expression, none, argument, argumentsOf, expression, holdsCall}
-use Rattle.model.specs.Running.{Work, Step, made, refused, _after_, Runs, evaluate, evaluateAll, runAt, runOn}
+use Rattle.model.specs.Expressions.{Child, left, right, moves, childOf, Expression, none, argument, argumentsOf, expression}
+use Rattle.model.specs.Outputs.{rightSide}
+use Rattle.model.specs.Running.{Work, Step, made, refused, _after_, mostCalls, countCall, seekRule, Runs, onChild, evaluate, evaluateAll, runAt, runOn}
 use Rattle.model.proofs.Laws.Established.{Between, GoodNode, good-parameter, good-nothing, good-symbol, good-call}
 use Rattle.model.proofs.Laws.Expressions.{SmallerArguments, expression-parameter, expression-nothing, expression-symbol, expression-call, argumentsAt}
-use Rattle.running.specs.Work.{operandCount}
-use Rattle.running.specs.Contracts.{applied, childRuns}
+use Rattle.model.proofs.Laws.Calls.{EachCall, EachCallOfAll}
+use Rattle.running.specs.Work.{operandCount, operandNode}
+use Rattle.running.specs.Contracts.{Staying, operated, applied}
 
--- a tree's run is that of its root over its children
-pub run-root : (T : Transformation) (free : ℕ) (t : Tree) → runOn T free t ≡ runAt T free (childRuns T free t) (rootSymbol t)
-unfolding runOn childRuns
-run-root T free empty = refl
-run-root T free (node s l r) = refl
+-- a call: one past the last, one without a rule, and one that evaluates its rule's right side with a call less left
+module _ (T : Transformation) (free : ℕ) (t : Tree) (p : ℕ) (ws : List ℕ) (w : Work) where
+  pub run-past : (calls : ℕ) → mostCalls T ≤ w .tally .calls → runOn T free calls t p ws w ≡ refused 15 (mostCalls T)
+  unfolding runOn runAt countCall _after_
+  run-past zero h = refl
+  run-past (suc calls) h = rw (le-ltb (w .tally .calls) (mostCalls T) h)
+
+  module _ (few : w .tally .calls < mostCalls T) where
+    pub run-stuck : (calls : ℕ) → mostCalls T ≤ calls + w .tally .calls → ((w₁ : Work) → seekRule T p (rootSymbol t) w₁ ≡ refused 13 p)
+        → runOn T free calls t p ws w ≡ refused 13 p
+    unfolding runOn runAt countCall _after_
+    run-stuck zero h no-rule = absurd (omega arith)
+    run-stuck (suc calls) h no-rule = rw (lt-ltb (w .tally .calls) (mostCalls T) few, no-rule _)
+
+    pub run-goes : (calls rule : ℕ) → ((w₁ : Work) → seekRule T p (rootSymbol t) w₁ ≡ made rule w₁)
+        → runOn T free (suc calls) t p ws w
+        ≡ evaluate T free (onChild (runOn T free calls) t) (rightSide T rule) ws
+        (record { tally = record { used = w .tally .used; calls = suc (w .tally .calls) }; rows = w .rows })
+    unfolding runOn runAt countCall _after_
+    run-goes calls rule found = rw (lt-ltb (w .tally .calls) (mostCalls T) few, found _)
 
 -- what the operands of a node are
 module _ {S : ℕ} (counts : List ℕ) {k : ℕ} {n : Node} where
-  pub first-smaller : GoodNode S counts k n → (n .tag ≡ 0 → ⊥) → 1 ≤ operandCount counts n → n .first < k
+  first-smaller : GoodNode S counts k n → (n .tag ≡ 0 → ⊥) → 1 ≤ operandCount counts n → n .first < k
   unfolding operandCount
   first-smaller (good-parameter t a b) p h = absurd (p t)
   first-smaller (good-nothing t z) p h = let h′ : 1 ≤ 0 = rw (t, z) at h in absurd (not-suc-le-zero h′)
   first-smaller (good-symbol t a b f g) p h = f
   first-smaller (good-call t a b f g) p h = f (rw t at h)
 
-  pub second-smaller : GoodNode S counts k n → (n .tag ≡ 0 → ⊥) → 2 ≤ operandCount counts n → n .second < k
+  second-smaller : GoodNode S counts k n → (n .tag ≡ 0 → ⊥) → 2 ≤ operandCount counts n → n .second < k
   unfolding operandCount
   second-smaller (good-parameter t a b) p h = absurd (p t)
   second-smaller (good-nothing t z) p h = let h′ : 2 ≤ 0 = rw (t, z) at h in absurd (not-suc-le-zero h′)
   second-smaller (good-symbol t a b f g) p h = g
   second-smaller (good-call t a b f g) p h = g (rw t at h)
 
-  -- a call can be no parameter and no output symbol
-  pub call-good : GoodNode S counts k n → (n .tag ≡ 0 → ⊥) → (n .tag ≡ 1 → ⊥) → (n .tag ≡ 2) × (n .name < length counts) × Between 1 2 (n .child)
-  call-good (good-parameter t a b) p q = absurd (p t)
-  call-good (good-nothing t z) p q = absurd (q t)
-  call-good (good-symbol t a b f g) p q = absurd (q t)
-  call-good (good-call t a b f g) p q = (t, a, b)
+  -- operand 1 or 2, where there are so many
+  pub operand-smaller : (number : ℕ) → Between 1 2 number → GoodNode S counts k n → (n .tag ≡ 0 → ⊥) → number ≤ operandCount counts n → operandNode number n < k
+  operand-smaller zero b g p h = absurd (not-suc-le-zero (b .least≤))
+  operand-smaller (suc zero) b g p h = first-smaller g p h
+  operand-smaller (suc (suc zero)) b g p h = second-smaller g p h
+  operand-smaller (suc (suc (suc m))) b g p h = absurd (omega (arith, b .≤most))
+
+  -- what is no parameter and no output symbol is a call
+  pub call-named : GoodNode S counts k n → (n .tag ≡ 0 → ⊥) → (n .tag ≡ 1 → ⊥) → n .name < length counts
+  call-named (good-parameter t a b) p q = absurd (p t)
+  call-named (good-nothing t z) p q = absurd (q t)
+  call-named (good-symbol t a b f g) p q = absurd (q t)
+  call-named (good-call t a b f g) p q = a
 
   pub parameter-name : GoodNode S counts k n → n .tag ≡ 0 → (1 ≤ n .name) × (n .name ≤ 2)
   parameter-name (good-parameter t a b) p = (a, b)
   parameter-name (good-nothing t z) p = absurd (omega arith)
   parameter-name (good-symbol t a b f g) p = absurd (omega arith)
   parameter-name (good-call t a b f g) p = absurd (omega arith)
-
--- a step after another that stops, and after one that goes on
-after-assoc : {A B C : Type 0} (s : Step A) (f : A → Work → Step B) (g : B → Work → Step C) → s after f after g ≡ (s after λ a w. f a w after g)
-unfolding _after_
-after-assoc (made a w) f g = refl
-after-assoc (refused number place) f g = refl
 
 -- one or two arguments, and then a call with their rows
 module _ (T : Transformation) (free : ℕ) (runs : Child → Runs) (ws : List ℕ) (go : List ℕ → Work → Step ℕ) where
@@ -91,6 +111,22 @@ two-of zero h e f = absurd (not-suc-le-zero h)
 two-of (suc zero) h e f = absurd (omega arith)
 two-of (suc (suc m)) h e f = refl
 
+-- operand 1 or 2 of a node
+module _ (counts : List ℕ) (n : Node) (number : ℕ) (value : ℕ → Work → Step ℕ) (w : Work) where
+  pub operated-none : operandCount counts n < number → operated counts n number value w ≡ made 0 w
+  unfolding operated
+  operated-none h = rw (lt-ltb (operandCount counts n) number h)
+
+  pub operated-there : number ≤ operandCount counts n → operated counts n number value w ≡ value (operandNode number n) w
+  unfolding operated
+  operated-there h = rw (le-ltb (operandCount counts n) number h)
+
+-- the rows of as many operands as there are
+abbrev pub rowsOf : (count : ℕ) (first second : ℕ) → List ℕ
+rowsOf zero a b = []
+rowsOf (suc zero) a b = a ∷ []
+rowsOf (suc (suc m)) a b = a ∷ b ∷ []
+
 module _ (T : Transformation) (free : ℕ) (runs : Child → Runs) (ws : List ℕ) (w : Work) (k : ℕ) where
   abbrev here : Node
   here = nodeAt (T .nodes) k
@@ -108,8 +144,8 @@ module _ (T : Transformation) (free : ℕ) (runs : Child → Runs) (ws : List �
   unfolding evaluate
   step-call t h = rw (expression-call (T .counts) (T .nodes) k t h)
 
-  -- no operand, one, or two, and then what the node does with their rows
-  pub step-none : {S : ℕ} → GoodNode S (T .counts) k here → (here .tag ≡ 0 → ⊥) → operandCount (T .counts) here ≡ 0 → value k w ≡ applied free runs here 0 0 [] w
+  -- no operand, one, or two
+  step-none : {S : ℕ} → GoodNode S (T .counts) k here → (here .tag ≡ 0 → ⊥) → operandCount (T .counts) here ≡ 0 → value k w ≡ applied free runs here 0 0 [] w
   unfolding evaluate _after_ operandCount applied
   step-none (good-parameter t a b) p o = absurd (p t)
   step-none (good-nothing t z) p o = rw (expression-nothing (T .counts) (T .nodes) k t z, t, z)
@@ -118,7 +154,7 @@ module _ (T : Transformation) (free : ℕ) (runs : Child → Runs) (ws : List �
       let c : countOf (T .counts) (here .name) ≡ 0 = rw t at o in
       step-call t (record { first = f; second = g }) ∙ rw (c, t)
 
-  pub step-one : {S : ℕ} → GoodNode S (T .counts) k here → (here .tag ≡ 0 → ⊥) → operandCount (T .counts) here ≡ 1
+  step-one : {S : ℕ} → GoodNode S (T .counts) k here → (here .tag ≡ 0 → ⊥) → operandCount (T .counts) here ≡ 1
       → value k w ≡ (value (here .first) w after λ a w₁. applied free runs here a 0 (a ∷ []) w₁)
   unfolding operandCount applied
   step-one (good-parameter t a b) p o = absurd (p t)
@@ -128,7 +164,7 @@ module _ (T : Transformation) (free : ℕ) (runs : Child → Runs) (ws : List �
       let c : countOf (T .counts) (here .name) ≡ 1 = rw t at o in
       step-call t (record { first = f; second = g }) ∙ rw (c, t) (one-argument T free runs ws (λ vs w₁. runs (childOf (here .child)) (here .name) vs w₁) _ w)
 
-  pub step-two : {S : ℕ} → GoodNode S (T .counts) k here → (here .tag ≡ 0 → ⊥) → 2 ≤ operandCount (T .counts) here
+  step-two : {S : ℕ} → GoodNode S (T .counts) k here → (here .tag ≡ 0 → ⊥) → 2 ≤ operandCount (T .counts) here
       → value k w ≡ (value (here .first) w after λ a w₁. value (here .second) w₁ after λ b w₂. applied free runs here a b (a ∷ b ∷ []) w₂)
   unfolding evaluate operandCount applied
   step-two (good-parameter t a b) p o = absurd (p t)
@@ -140,44 +176,77 @@ module _ (T : Transformation) (free : ℕ) (runs : Child → Runs) (ws : List �
       (two-arguments T free runs ws (λ vs w₁. runs (childOf (here .child)) (here .name) vs w₁)
       (expression (T .counts) (T .nodes) (here .first)) (expression (T .counts) (T .nodes) (here .second)) w)
 
--- under symbol 0 no operand holds a call
-or-false-left : (a b : Bool) → (a or b) ≡ false → a ≡ false
-unfolding _or_
-or-false-left true b e = e
-or-false-left false b e = refl
+  -- so its operands are evaluated, and then it does what it does with their rows
+  pub step-node : {S : ℕ} → GoodNode S (T .counts) k here → (here .tag ≡ 0 → ⊥)
+      → value k w
+      ≡ (operated (T .counts) here 1 value w after λ a w₁. operated (T .counts) here 2 value w₁ after λ b w₂. applied free runs here a b (rowsOf (operandCount (T .counts) here) a b) w₂)
+  unfolding operated _after_
+  step-node good p = go (operandCount (T .counts) here) refl
+    where
+      go : (m : ℕ) → operandCount (T .counts) here ≡ m
+          → value k w
+          ≡ (operated (T .counts) here 1 value w after λ a w₁. operated (T .counts) here 2 value w₁ after λ b w₂. applied free runs here a b (rowsOf (operandCount (T .counts) here) a b) w₂)
+      go zero e = step-none good p e ∙ rw e
+      go (suc zero) e = step-one good p e ∙ rw e
+      go (suc (suc m)) e = step-two good p (omega arith) ∙ rw (e, le-ltb (suc (suc m)) 1 (omega arith), le-ltb (suc (suc m)) 2 (omega arith))
 
-or-false-right : (a b : Bool) → (a or b) ≡ false → b ≡ false
-unfolding _or_
-or-false-right true b e = absurd (true≢false e)
-or-false-right false b e = e
+-- where all of a node's calls stay, so do those of its operands, and so does the node, if it is a call
+first-of : (m : ℕ) (e f : Expression) → 1 ≤ m → EachCallOfAll Staying (argumentsOf m e f) → EachCall Staying e
+first-of zero e f h each = absurd (not-suc-le-zero h)
+first-of (suc zero) e f h each = each .0
+first-of (suc (suc m)) e f h each = each .0
+
+second-of : (m : ℕ) (e f : Expression) → 2 ≤ m → EachCallOfAll Staying (argumentsOf m e f) → EachCall Staying f
+second-of zero e f h each = absurd (not-suc-le-zero h)
+second-of (suc zero) e f h each = absurd (omega arith)
+second-of (suc (suc m)) e f h each = each .1 .0
+
+child-here : (c : ℕ) → moves (childOf c) ≡ false → c ≡ 0
+child-here c e = go (ℕ-discrete c 0)
+  where
+    moving : (b : Bool) → moves (choose b left right) ≡ true
+    moving true = refl
+    moving false = refl
+
+    go : Dec (c ≡ 0) → c ≡ 0
+    go (yes z) = z
+    go (no ne) = absurd (true≢false (sym (moving (eqb c 1)) ∙ rw (ne-eqb c 0 ne) at e))
 
 module _ (counts nodes : List ℕ) (k : ℕ) where
-  abbrev holds : ℕ → Bool
-  holds m = holdsCall (expression counts nodes m)
+  abbrev Quiet : ℕ → Type 0
+  Quiet m = EachCall Staying (expression counts nodes m)
 
-  call-holds : (m : ℕ) → nodeAt nodes k .tag ≡ 2 → SmallerArguments counts nodes k → holds k ≡ false → holds m ≡ false
-  unfolding holdsCall
-  call-holds m t h q = absurd (true≢false (rw (expression-call counts nodes k t h) at q))
-
-  pub first-quiet : {S : ℕ} → GoodNode S counts k (nodeAt nodes k) → (nodeAt nodes k .tag ≡ 0 → ⊥) → 1 ≤ operandCount counts (nodeAt nodes k)
-      → holds k ≡ false → holds (nodeAt nodes k .first) ≡ false
-  unfolding holdsCall operandCount
+  first-quiet : {S : ℕ} → GoodNode S counts k (nodeAt nodes k) → (nodeAt nodes k .tag ≡ 0 → ⊥) → 1 ≤ operandCount counts (nodeAt nodes k)
+      → Quiet k → Quiet (nodeAt nodes k .first)
+  unfolding operandCount
   first-quiet (good-parameter t a b) p o q = absurd (p t)
   first-quiet (good-nothing t z) p o q = let o′ : 1 ≤ 0 = rw (t, z) at o in absurd (not-suc-le-zero o′)
-  first-quiet (good-symbol t a b f g) p o q = or-false-left _ _ (rw (expression-symbol counts nodes k t a f g) at q)
-  first-quiet (good-call t a b f g) p o q = call-holds _ t (record { first = f; second = g }) q
+  first-quiet (good-symbol t a b f g) p o q = (rw (expression-symbol counts nodes k t a f g) at q) .0
+  first-quiet (good-call t a b f g) p o q =
+      first-of (countOf counts (nodeAt nodes k .name)) _ _ (rw t at o)
+      ((rw (expression-call counts nodes k t (record { first = f; second = g })) at q) .1)
 
-  pub second-quiet : {S : ℕ} → GoodNode S counts k (nodeAt nodes k) → (nodeAt nodes k .tag ≡ 0 → ⊥) → 2 ≤ operandCount counts (nodeAt nodes k)
-      → holds k ≡ false → holds (nodeAt nodes k .second) ≡ false
-  unfolding holdsCall operandCount
+  second-quiet : {S : ℕ} → GoodNode S counts k (nodeAt nodes k) → (nodeAt nodes k .tag ≡ 0 → ⊥) → 2 ≤ operandCount counts (nodeAt nodes k)
+      → Quiet k → Quiet (nodeAt nodes k .second)
+  unfolding operandCount
   second-quiet (good-parameter t a b) p o q = absurd (p t)
   second-quiet (good-nothing t z) p o q = let o′ : 2 ≤ 0 = rw (t, z) at o in absurd (not-suc-le-zero o′)
-  second-quiet (good-symbol t a b f g) p o q = or-false-right _ _ (rw (expression-symbol counts nodes k t a f g) at q)
-  second-quiet (good-call t a b f g) p o q = call-holds _ t (record { first = f; second = g }) q
+  second-quiet (good-symbol t a b f g) p o q = (rw (expression-symbol counts nodes k t a f g) at q) .1
+  second-quiet (good-call t a b f g) p o q =
+      second-of (countOf counts (nodeAt nodes k .name)) _ _ (rw t at o)
+      ((rw (expression-call counts nodes k t (record { first = f; second = g })) at q) .1)
 
-  pub call-not-quiet : {S : ℕ} → GoodNode S counts k (nodeAt nodes k) → (nodeAt nodes k .tag ≡ 0 → ⊥) → (nodeAt nodes k .tag ≡ 1 → ⊥) → holds k ≡ false → ⊥
-  unfolding holdsCall
-  call-not-quiet (good-parameter t a b) p o q = absurd (p t)
-  call-not-quiet (good-nothing t z) p o q = absurd (o t)
-  call-not-quiet (good-symbol t a b f g) p o q = absurd (o t)
-  call-not-quiet (good-call t a b f g) p o q = true≢false (rw (expression-call counts nodes k t (record { first = f; second = g })) at q)
+  pub operand-quiet : {S : ℕ} (number : ℕ) → Between 1 2 number → GoodNode S counts k (nodeAt nodes k) → (nodeAt nodes k .tag ≡ 0 → ⊥)
+      → number ≤ operandCount counts (nodeAt nodes k)
+      → Quiet k → Quiet (operandNode number (nodeAt nodes k))
+  operand-quiet zero b g p o q = absurd (not-suc-le-zero (b .least≤))
+  operand-quiet (suc zero) b g p o q = first-quiet g p o q
+  operand-quiet (suc (suc zero)) b g p o q = second-quiet g p o q
+  operand-quiet (suc (suc (suc m))) b g p o q = absurd (omega (arith, b .≤most))
+
+  pub quiet-call-stays : {S : ℕ} → GoodNode S counts k (nodeAt nodes k) → (nodeAt nodes k .tag ≡ 0 → ⊥) → (nodeAt nodes k .tag ≡ 1 → ⊥) → Quiet k
+      → nodeAt nodes k .child ≡ 0
+  quiet-call-stays (good-parameter t a b) p o q = absurd (p t)
+  quiet-call-stays (good-nothing t z) p o q = absurd (o t)
+  quiet-call-stays (good-symbol t a b f g) p o q = absurd (o t)
+  quiet-call-stays (good-call t a b f g) p o q = child-here (nodeAt nodes k .child) ((rw (expression-call counts nodes k t (record { first = f; second = g })) at q) .0)

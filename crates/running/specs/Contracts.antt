@@ -1,136 +1,135 @@
--- What evaluating a node, applying it and calling a procedure require and promise.
+-- What evaluating a node and its operands, applying it and calling a procedure require and promise.
 use mathlib.Core.Path.{_≡_}
 use mathlib.Core.Bool.{false}
 use mathlib.Core.List.{List}
-use Prim.Native.Nat.{ℕ, _<_, _≤_}
-use lib.Dec.{eqb}
+use Prim.Native.Nat.{ℕ, _+_, _*_, _<_, _≤_}
+use lib.Dec.{eqb, ltb}
 use lib.ListN.{length, getD}
 use Rattle.foundation.specs.Tests.{choose}
-use Rattle.foundation.specs.Search.{first}
-use Rattle.model.specs.Trees.{Tree, empty, node}
 use Rattle.model.specs.Rows.{rowCount}
 use Rattle.model.specs.Tables.{Transformation, Node, nodeAt, nodeCount, ruleAt, ruleCount}
-use Rattle.model.specs.Expressions.{Child, childOf, expression, holdsCall}
-use Rattle.model.specs.Facts.{onSide}
+use Rattle.model.specs.Expressions.{Child, moves, childOf, expression}
 use Rattle.model.specs.Answers.{Verdict, Answer, refusal, refuseIf, _then_, given}
 use Rattle.model.specs.Documents.{documentTree, numbersTaken, leadingTree, leadingVerdict}
-use Rattle.model.specs.Running.{Work, Step, Runs, noRuns, Ran, rowsWrong, addRow, evaluate, runOn, run, closing}
+use Rattle.model.specs.Running.{Work, Step, made, mostCalls, Runs, onChild, Ran, rowsWrong, addRow, evaluate, runOn, run, closing}
 use Rattle.answers.specs.declared.RunningAnswer.{RunningAnswer}
 use Rattle.answers.specs.Numbers.{runningAnswer}
 use Rattle.model.proofs.Laws.Documents.{treeFrom}
 use Rattle.model.proofs.Laws.Established.{Between, GoodNode, GoodRule}
+use Rattle.model.proofs.Laws.Calls.{EachCall}
 use Rattle.running.specs.declared.Tally.{Tally}
 use Rattle.running.specs.declared.Outcome.{Outcome}
 use Rattle.running.specs.declared.Ended.{Ended}
-use Rattle.plans.specs.Plans.{Laid}
+use Rattle.plans.specs.Plans.{mostProcedures, mostNodes, Laid}
 use Rattle.running.specs.Places.{Children}
-use Rattle.running.specs.Work.{workOf, stepOf, endedOf}
+use Rattle.running.specs.Work.{workOf, stepOf, endedOf, operandCount, operandNode}
 
 -- the tables of an admitted transformation
-pub record Admitted (counts nodes rules : List ℕ) : Type 0 where
-  pub symbols : ℕ
-  pub symbolsFew : symbols ≤ 16
-  pub procedures : Between 1 16 (length counts)
-  pub nodesLong : length nodes ≤ 1280
-  pub nodesFew : nodeCount nodes ≤ 256
-  pub node : (k : ℕ) → k < nodeCount nodes → GoodNode symbols counts k (nodeAt nodes k)
-  pub rule : (r : ℕ) → r < ruleCount rules → GoodRule symbols counts nodes (ruleAt rules r)
+pub record Admitted (T : Transformation) : Type 0 where
+  pub symbols : Between 1 16 (T .symbols)
+  pub procedures : Between 1 mostProcedures (length (T .counts))
+  pub nodesLong : length (T .nodes) ≤ 5 * mostNodes
+  pub nodesFew : nodeCount (T .nodes) ≤ mostNodes
+  pub node : (k : ℕ) → k < nodeCount (T .nodes) → GoodNode (T .symbols) (T .counts) k (nodeAt (T .nodes) k)
+  pub rule : (r : ℕ) → r < ruleCount (T .rules) → GoodRule (T .symbols) (T .counts) (T .nodes) (ruleAt (T .rules) r)
 
 -- a plan is that of an admitted transformation and of a document
 pub record Plan (plan : List ℕ) : Type 0 where
-  pub counts : List ℕ
-  pub nodes : List ℕ
-  pub rules : List ℕ
+  pub transformation : Transformation
   pub numbers : List ℕ
   pub ends : List ℕ
-  pub tables : Admitted counts nodes rules
+  pub tables : Admitted transformation
   pub text : Children numbers ends
-  pub laid : Laid counts nodes rules numbers ends plan
+  pub laid : Laid transformation numbers ends plan
 
--- a node that may be evaluated at a place: under symbol 0 it holds no call
-pub record Evaluable (counts nodes numbers : List ℕ) (place k : ℕ) : Type 0 where
+-- a call that goes to no child
+abbrev pub Staying : Child → (procedure : ℕ) → Type 0
+Staying c p = moves c ≡ false
+
+-- a node that may be evaluated at a place: under symbol 0 all of its calls stay there
+pub record Evaluable (T : Transformation) (numbers : List ℕ) (place k : ℕ) : Type 0 where
   pub inside : place < length numbers
-  pub there : k < nodeCount nodes
-  pub quiet : getD numbers place 0 ≡ 0 → holdsCall (expression counts nodes k) ≡ false
-
--- a node whose operands are there: an output symbol, or a call, which goes to a child
-pub record GoodCall (counts numbers : List ℕ) (place : ℕ) (n : Node) : Type 0 where
-  pub procedure : n .name < length counts
-  pub child : Between 1 2 (n .child)
-  pub inner : 1 ≤ getD numbers place 0
-
-pub record Applicable (counts numbers : List ℕ) (place : ℕ) (n : Node) : Type 0 where
-  pub inside : place < length numbers
-  pub call : (n .tag ≡ 1 → ⊥) → GoodCall counts numbers place n
+  pub there : k < nodeCount (T .nodes)
+  pub quiet : getD numbers place 0 ≡ 0 → EachCall Staying (expression (T .counts) (T .nodes) k)
 
 -- two numbers are the rows of the parameters, 0 where there are fewer
 pub record Carries (ws : List ℕ) (first second : ℕ) : Type 0 where
   pub one : getD ws 0 0 ≡ first
   pub two : getD ws 1 0 ≡ second
 
--- running procedures on the children of a tree
-unfoldable pub childRuns : Transformation → ℕ → Tree → Child → Runs
-childRuns T free empty = λ c. noRuns
-childRuns T free (node s l r) = onSide (runOn T free l) (runOn T free r)
+-- the evaluation of operand 1 or 2 of a node, by that of its nodes: where it has fewer, row 0 stands for it at once
+unfoldable pub operated : (counts : List ℕ) → Node → (number : ℕ) → (ℕ → Work → Step ℕ) → Work → Step ℕ
+operated counts n number value w = choose (ltb (operandCount counts n) number) (made 0 w) (value (operandNode number n) w)
 
 -- what follows the evaluation of a node's operands: an output symbol adds a row over them, a call calls its procedure with
 -- them as parameters
 unfoldable pub applied : ℕ → (Child → Runs) → Node → (first second : ℕ) → List ℕ → Work → Step ℕ
 applied free runs n a b ws w = choose (eqb (n .tag) 1) (addRow free (n .name) a b w) (runs (childOf (n .child)) (n .name) ws w)
 
--- the transformation of these tables, over so many symbols
-abbrev pub transformationOf : (counts nodes rules : List ℕ) (S : ℕ) → Transformation
-transformationOf counts nodes rules S = record { symbols = S; counts = counts; nodes = nodes; rules = rules }
+-- the promises: each says what step of document 01 the answer and the closing buffer are, for any list of parameters that the two rows
+-- stand for and any number of calls left that is no smaller than what the tally leaves
+module _ (T : Transformation) (numbers : List ℕ) (place : ℕ) where
+  -- running procedures where a call from the place goes
+  abbrev pub runsFrom : (free calls : ℕ) → Child → Runs
+  runsFrom free calls = onChild (runOn T free calls) (treeFrom numbers place)
 
--- the promises: each says what step of document 01 the answer and the closing buffer are, for any number of symbols and
--- any list of parameters that the two rows stand for
-module _ (counts nodes rules numbers : List ℕ) (place : ℕ) where
+  -- evaluating a node there
+  abbrev pub valueFrom : (free calls : ℕ) (ws : List ℕ) → ℕ → Work → Step ℕ
+  valueFrom free calls ws k = evaluate T free (runsFrom free calls) (expression (T .counts) (T .nodes) k) ws
+
   abbrev pub Evaluates : (k first second : ℕ) (buffer : List ℕ) → Tally → Outcome → List ℕ → Type 0
   Evaluates k first second buffer tally outcome closing =
-      (S free : ℕ) (ws : List ℕ) → free ≡ rowCount buffer → Carries ws first second
-      → evaluate (transformationOf counts nodes rules S) free (childRuns (transformationOf counts nodes rules S) free (treeFrom numbers place)) (expression counts nodes k) ws (workOf tally buffer)
-      ≡ stepOf free outcome closing
+      (free calls : ℕ) (ws : List ℕ) → free ≡ rowCount buffer → mostCalls T ≤ calls + tally .calls → Carries ws first second
+      → valueFrom free calls ws k (workOf tally buffer) ≡ stepOf free outcome closing
 
-  abbrev pub Applies : Node → (first second : ℕ) (buffer : List ℕ) → Tally → Outcome → List ℕ → Type 0
-  Applies n first second buffer tally outcome closing =
-      (S free : ℕ) (ws : List ℕ) → free ≡ rowCount buffer → Carries ws first second
-      → applied free (childRuns (transformationOf counts nodes rules S) free (treeFrom numbers place)) n first second ws (workOf tally buffer)
-      ≡ stepOf free outcome closing
+  abbrev pub Operates : (k number first second : ℕ) (buffer : List ℕ) → Tally → Outcome → List ℕ → Type 0
+  Operates k number first second buffer tally outcome closing =
+      (free calls : ℕ) (ws : List ℕ) → free ≡ rowCount buffer → mostCalls T ≤ calls + tally .calls → Carries ws first second
+      → operated (T .counts) (nodeAt (T .nodes) k) number (valueFrom free calls ws) (workOf tally buffer) ≡ stepOf free outcome closing
+
+  abbrev pub Applies : (k first second : ℕ) (buffer : List ℕ) → Tally → Outcome → List ℕ → Type 0
+  Applies k first second buffer tally outcome closing =
+      (free calls : ℕ) (ws : List ℕ) → free ≡ rowCount buffer → mostCalls T ≤ calls + tally .calls → Carries ws first second
+      → applied free (runsFrom free calls) (nodeAt (T .nodes) k) first second ws (workOf tally buffer) ≡ stepOf free outcome closing
 
   abbrev pub Calls : (procedure first second : ℕ) (buffer : List ℕ) → Tally → Outcome → List ℕ → Type 0
   Calls p first second buffer tally outcome closing =
-      (S free : ℕ) (ws : List ℕ) → free ≡ rowCount buffer → Carries ws first second
-      → runOn (transformationOf counts nodes rules S) free (treeFrom numbers place) p ws (workOf tally buffer) ≡ stepOf free outcome closing
+      (free calls : ℕ) (ws : List ℕ) → free ≡ rowCount buffer → mostCalls T ≤ calls + tally .calls → Carries ws first second
+      → runOn T free calls (treeFrom numbers place) p ws (workOf tally buffer) ≡ stepOf free outcome closing
 
 -- the same of a plan: what is asked, and what is promised of any tables that the plan is one of
 pub record EvaluableIn (plan : List ℕ) (place k : ℕ) : Type 0 where
   pub known : Plan plan
-  pub able : Evaluable (known .counts) (known .nodes) (known .numbers) place k
+  pub able : Evaluable (known .transformation) (known .numbers) place k
 
-pub record ApplicableIn (plan : List ℕ) (place : ℕ) (n : Node) : Type 0 where
+-- a node that is no parameter
+pub record OperableIn (plan : List ℕ) (place k : ℕ) : Type 0 where
   pub known : Plan plan
-  pub able : Applicable (known .counts) (known .numbers) place n
+  pub able : Evaluable (known .transformation) (known .numbers) place k
+  pub inner : nodeAt (known .transformation .nodes) k .tag ≡ 0 → ⊥
 
 pub record CallableIn (plan : List ℕ) (place p : ℕ) : Type 0 where
   pub known : Plan plan
   pub inside : place < length (known .numbers)
-  pub named : p < length (known .counts)
+  pub named : p < length (known .transformation .counts)
 
 module _ (plan : List ℕ) (place : ℕ) where
   abbrev pub EvaluatesIn : (k first second : ℕ) (buffer : List ℕ) → Tally → Outcome → List ℕ → Type 0
   EvaluatesIn k first second buffer tally outcome closing =
-      (asked : EvaluableIn plan place k)
-      → Evaluates (asked .known .counts) (asked .known .nodes) (asked .known .rules) (asked .known .numbers) place k first second buffer tally outcome closing
+      (asked : EvaluableIn plan place k) → Evaluates (asked .known .transformation) (asked .known .numbers) place k first second buffer tally outcome closing
 
-  abbrev pub AppliesIn : Node → (first second : ℕ) (buffer : List ℕ) → Tally → Outcome → List ℕ → Type 0
-  AppliesIn n first second buffer tally outcome closing =
-      (asked : ApplicableIn plan place n)
-      → Applies (asked .known .counts) (asked .known .nodes) (asked .known .rules) (asked .known .numbers) place n first second buffer tally outcome closing
+  abbrev pub OperatesIn : (k number first second : ℕ) (buffer : List ℕ) → Tally → Outcome → List ℕ → Type 0
+  OperatesIn k number first second buffer tally outcome closing =
+      (asked : OperableIn plan place k)
+      → Operates (asked .known .transformation) (asked .known .numbers) place k number first second buffer tally outcome closing
+
+  abbrev pub AppliesIn : (k first second : ℕ) (buffer : List ℕ) → Tally → Outcome → List ℕ → Type 0
+  AppliesIn k first second buffer tally outcome closing =
+      (asked : OperableIn plan place k) → Applies (asked .known .transformation) (asked .known .numbers) place k first second buffer tally outcome closing
 
   abbrev pub CallsIn : (procedure first second : ℕ) (buffer : List ℕ) → Tally → Outcome → List ℕ → Type 0
   CallsIn p first second buffer tally outcome closing =
-      (asked : CallableIn plan place p)
-      → Calls (asked .known .counts) (asked .known .nodes) (asked .known .rules) (asked .known .numbers) place p first second buffer tally outcome closing
+      (asked : CallableIn plan place p) → Calls (asked .known .transformation) (asked .known .numbers) place p first second buffer tally outcome closing
 
 -- the promise of the whole work from a tally on: some outcome is that of calling procedure 0 on the whole document, and the
 -- end and the tally are that outcome's
@@ -145,10 +144,9 @@ pub record EndsWith (ran : Ran) (answer : Answer) (buffer : List ℕ) : Type 0 w
   pub left : buffer ≡ ran .rows
 
 -- the promise of the whole work on a document, which is all of the numbers
-abbrev pub Closes : (counts nodes rules numbers buffer : List ℕ) → RunningAnswer → List ℕ → Type 0
-Closes counts nodes rules numbers buffer r closed =
-    (S : ℕ)
-    → EndsWith (closing (length buffer) (length numbers) (run (transformationOf counts nodes rules S) (rowCount buffer) (documentTree numbers))) (runningAnswer r) closed
+abbrev pub Closes : Transformation → (numbers buffer : List ℕ) → RunningAnswer → List ℕ → Type 0
+Closes T numbers buffer r closed =
+    EndsWith (closing (length buffer) (length numbers) (run T (rowCount buffer) (documentTree numbers))) (runningAnswer r) closed
 
 -- what is said before the work: "9, the row buffer's length is no multiple of three or above 12,288 (place 0); 11; 12"
 abbrev pub beforeWork : ℕ → List ℕ → (lent : ℕ) → Verdict

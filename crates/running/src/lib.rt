@@ -1,9 +1,9 @@
 // Running a transformation on the document that numbers begin with: document 01's order of work, its tally and its rows, and how many
 // numbers the document took.
 //
-// Calling a procedure evaluates its right side, and evaluating calls procedures on the children: the height of the tree falls
-// at each call, the node number at each evaluation. What the work reads stands in one plan, so that a step of it is small. The
-// steps take the tally by value and give it back; over them, `start_lent` takes it lent, and `start_anew` lends it one.
+// Calling a procedure evaluates its right side, and evaluating calls procedures on the children or at the node itself: the calls left fall
+// at each call, the node number at each evaluation. What the work reads stands in one plan, so that a step of it is small. The steps take
+// the tally by value and give it back; over them, `start_lent` takes it lent, and `start_anew` lends it one.
 ghost use mathlib.Core.Path.{_≡_};
 ghost use Prim.Native.Nat.{_+_, _<_, _≤_};
 ghost use lib.ListN.{length, take};
@@ -15,20 +15,24 @@ ghost use Rattle.model.specs.Answers.{refuseIf, _then_};
 ghost use Rattle.model.specs.Running.{addRow, rowsWrong, running};
 ghost use Rattle.model.proofs.Laws.Established.{Between};
 ghost use Rattle.reading.specs.Answers.{readingVerdict};
+ghost use Rattle.plans.specs.Plans.{mostProcedures, mostNumbers, transformationOf};
 ghost use Rattle.tables.specs.Tuples.{nodeOf};
-ghost use Rattle.running.specs.Work.{workOf, stepOf, endedOf, parameterRow, planOperands, planChild, numbersKept, endAnswer, verdictOf};
+ghost use Rattle.running.specs.Work.{workOf, stepOf, endedOf, parameterRow, planOperands, operandNode, planChild, numbersKept, endAnswer, verdictOf};
 ghost use Rattle.running.specs.Places.{ReadDocument};
-ghost use Rattle.running.specs.Contracts.{transformationOf, EndsWith, afterAdmission, Admitted, Closes, EvaluableIn, ApplicableIn, CallableIn, EvaluatesIn, AppliesIn, CallsIn, StartsIn};
+ghost use Rattle.running.specs.Contracts.{EndsWith, afterAdmission, Admitted, Closes, EvaluableIn, OperableIn, CallableIn, EvaluatesIn, OperatesIn, AppliesIn, CallsIn, StartsIn};
 use admission::admit;
 use answers::AdmissionAnswer;
 use answers::DocumentFault;
 use answers::RunningAnswer;
+use plans::MOST_NODES;
 use plans::Plan;
+use plans::blank_plan;
 use plans::count_of;
 use plans::end_of;
+use plans::fill_plan;
+use plans::most_calls;
 use plans::node_of;
-use plans::plan;
-use plans::side_of;
+use plans::sought_side;
 use plans::symbol_of;
 use reading::Reading;
 use reading::fill_ends;
@@ -44,6 +48,12 @@ pub struct Tally {
     pub calls: u32,
 }
 
+// The rows of two parameters, or of a node's two operands; 0 where there are fewer.
+pub struct RowPair {
+    pub first: u16,
+    pub second: u16,
+}
+
 // What a step of the work gives.
 pub enum Outcome {
     // A row, and the tally after it.
@@ -52,8 +62,8 @@ pub enum Outcome {
     NoRule(Procedure),
     // A row is due and none is free.
     NoRow,
-    // A call past the last that may be made.
-    TooManyCalls,
+    // A call past the last that may be made: how many may.
+    TooManyCalls(u32),
 }
 
 // How the work ends: its root row, or a refusal.
@@ -61,7 +71,7 @@ pub enum End {
     Root(u16),
     NoRule(Procedure),
     NoRow,
-    TooManyCalls,
+    TooManyCalls(u32),
 }
 
 // How the work ends, and the tally that is then reached; where it is refused, the tally with which it began.
@@ -83,35 +93,48 @@ fn wide(x: u16) -> usize
     x as usize
 }
 
-// The place of the child to which a call goes: 1 is the left one, right behind its parent; another the right one, where the
-// left one ends.
+// The place to which a call goes: child 0 is the node itself, 1 the left child, right behind it, and 2 the right one, where the left one
+// ends.
 fn child_place(plan: &Plan, place: usize, child: u16) -> usize
-    requires { ⌜ place < 1022 ⌝ }
+    requires { ⌜ ((child ≡ 0 → ⊥) → place + 1 < mostNumbers) ⌝ }
     ensures { λ r. ⌜ r ≡ planChild (now (plan .entry)) place child ⌝ }
 {
-    if child == 1 {
-        place + 1
-    } else {
-        end_of(plan, place + 1)
+    if child == 0 {
+        return place;
     }
+    if child == 1 {
+        return place + 1;
+    }
+    end_of(plan, place + 1)
 }
 
 // The row that a parameter stands for.
-fn parameter_row(name: u16, first: u16, second: u16) -> u16
-    ensures { λ r. ⌜ r ≡ parameterRow name first second ⌝ }
+fn parameter_row(name: u16, given: RowPair) -> u16
+    ensures { λ r. ⌜ r ≡ parameterRow name (given .first) (given .second) ⌝ }
 {
-    if name == 1 { first } else { second }
+    if name == 1 { given.first } else { given.second }
 }
 
-// How many smaller nodes are evaluated for a node that is no parameter.
+// How many operands a node has that is no parameter.
 fn operand_count(plan: &Plan, node: Node) -> u16
-    requires { ⌜ ((node .tag ≡ 1 → ⊥) → node .name < 16) ⌝ }
+    requires { ⌜ ((node .tag ≡ 1 → ⊥) → node .name < mostProcedures) ⌝ }
     ensures { λ r. ⌜ r ≡ planOperands (now (plan .entry)) (nodeOf node) ⌝ }
 {
     if node.tag == 1 {
         if node.name == 0 { 0 } else { 2 }
     } else {
         count_of(plan, Procedure(node.name))
+    }
+}
+
+// The node of operand 1 or 2.
+fn operand_node(node: Node, number: u16) -> usize
+    ensures { λ r. ⌜ r ≡ operandNode number (nodeOf node) ⌝ }
+{
+    if number == 1 {
+        wide(node.first)
+    } else {
+        wide(node.second)
     }
 }
 
@@ -143,72 +166,80 @@ fn evaluate(
     plan: &Plan,
     node: usize,
     place: usize,
-    first: u16,
-    second: u16,
+    given: RowPair,
     rows: &mut [u16],
     tally: Tally,
 ) -> Outcome
     requires { ⌜ EvaluableIn (now plan) place node ⌝ }
     requires { ⌜ length (now rows) ≤ 12288 ⌝ }
-    ensures { λ r. ⌜ EvaluatesIn (now (plan .entry)) place node first second (now (rows .entry)) tally r (now (rows .exit)) ⌝ }
+    ensures { λ r. ⌜ EvaluatesIn (now (plan .entry)) place node (given .first) (given .second) (now (rows .entry)) tally r (now (rows .exit)) ⌝ }
 {
     let here = node_of(plan, node);
     if here.tag == 0 {
-        return Outcome::Made(parameter_row(here.name, first, second), tally);
+        return Outcome::Made(parameter_row(here.name, given), tally);
     }
-    let operands = operand_count(plan, here);
-    if operands == 0 {
-        return apply(plan, here, place, 0, 0, rows, tally);
-    }
-    let x = evaluate(plan, wide(here.first), place, first, second, rows, tally);
+    let x = operand(plan, node, 1, place, given, rows, tally);
     let Outcome::Made(left, after_left) = x else {
         return x;
     };
-    if operands == 1 {
-        return apply(plan, here, place, left, 0, rows, after_left);
-    }
-    let y = evaluate(
-        plan,
-        wide(here.second),
-        place,
-        first,
-        second,
-        rows,
-        after_left,
-    );
+    let y = operand(plan, node, 2, place, given, rows, after_left);
     let Outcome::Made(right, after_right) = y else {
         return y;
     };
-    apply(plan, here, place, left, right, rows, after_right)
+    let operands = RowPair {
+        first: left,
+        second: right,
+    };
+    apply(plan, node, place, operands, rows, after_right)
+}
+
+// Evaluates operand 1 or 2 of a node; where it has fewer, row 0 stands for it at once.
+fn operand(
+    plan: &Plan,
+    node: usize,
+    number: u16,
+    place: usize,
+    given: RowPair,
+    rows: &mut [u16],
+    tally: Tally,
+) -> Outcome
+    requires { ⌜ OperableIn (now plan) place node ⌝ }
+    requires { ⌜ Between 1 2 number × (length (now rows) ≤ 12288) ⌝ }
+    ensures { λ r. ⌜ OperatesIn (now (plan .entry)) place node number (given .first) (given .second) (now (rows .entry)) tally r (now (rows .exit)) ⌝ }
+{
+    let here = node_of(plan, node);
+    if operand_count(plan, here) < number {
+        return Outcome::Made(0, tally);
+    }
+    let smaller = operand_node(here, number);
+    evaluate(plan, smaller, place, given, rows, tally)
 }
 
 // Ends the evaluation of a node whose operands are evaluated: an output symbol adds its row, a call calls its procedure.
 fn apply(
     plan: &Plan,
-    here: Node,
+    node: usize,
     place: usize,
-    first: u16,
-    second: u16,
+    operands: RowPair,
     rows: &mut [u16],
     tally: Tally,
 ) -> Outcome
-    requires { ⌜ ApplicableIn (now plan) place (nodeOf here) ⌝ }
+    requires { ⌜ OperableIn (now plan) place node ⌝ }
     requires { ⌜ length (now rows) ≤ 12288 ⌝ }
-    ensures { λ r. ⌜ AppliesIn (now (plan .entry)) place (nodeOf here) first second (now (rows .entry)) tally r (now (rows .exit)) ⌝ }
+    ensures { λ r. ⌜ AppliesIn (now (plan .entry)) place node (operands .first) (operands .second) (now (rows .entry)) tally r (now (rows .exit)) ⌝ }
 {
+    let here = node_of(plan, node);
     if here.tag == 1 {
-        return add_row(rows, tally, Symbol(here.name), first, second);
+        return add_row(
+            rows,
+            tally,
+            Symbol(here.name),
+            operands.first,
+            operands.second,
+        );
     }
     let child = child_place(plan, place, here.child);
-    call(
-        plan,
-        Procedure(here.name),
-        child,
-        first,
-        second,
-        rows,
-        tally,
-    )
+    call(plan, Procedure(here.name), child, operands, rows, tally)
 }
 
 // Calls a procedure at a place of the document, with the rows of its parameters. The call is counted before its rule is
@@ -217,28 +248,29 @@ fn call(
     plan: &Plan,
     procedure: Procedure,
     place: usize,
-    first: u16,
-    second: u16,
+    given: RowPair,
     rows: &mut [u16],
     tally: Tally,
 ) -> Outcome
     requires { ⌜ CallableIn (now plan) place (procedure .0) ⌝ }
     requires { ⌜ length (now rows) ≤ 12288 ⌝ }
-    ensures { λ r. ⌜ CallsIn (now (plan .entry)) place (procedure .0) first second (now (rows .entry)) tally r (now (rows .exit)) ⌝ }
+    ensures { λ r. ⌜ CallsIn (now (plan .entry)) place (procedure .0) (given .first) (given .second) (now (rows .entry)) tally r (now (rows .exit)) ⌝ }
 {
     let calls = tally.calls;
-    let side = side_of(plan, procedure, symbol_of(plan, place));
-    if 65536 <= calls {
-        return Outcome::TooManyCalls;
+    let most = most_calls(plan);
+    let side = sought_side(plan, procedure, symbol_of(plan, place));
+    if most <= calls {
+        return Outcome::TooManyCalls(most);
     }
-    if 256 <= side {
+    if MOST_NODES <= side {
         return Outcome::NoRule(procedure);
     }
+    let next = calls + 1;
     let counted = Tally {
         used: tally.used,
-        calls: calls + 1,
+        calls: next,
     };
-    evaluate(plan, side, place, first, second, rows, counted)
+    evaluate(plan, side, place, given, rows, counted)
 }
 
 // An outcome's end and tally, where the work began with this tally.
@@ -258,9 +290,9 @@ fn end_with(before: Tally, outcome: Outcome) -> Ended
             tally: before,
             end: End::NoRow,
         },
-        Outcome::TooManyCalls => Ended {
+        Outcome::TooManyCalls(most) => Ended {
             tally: before,
-            end: End::TooManyCalls,
+            end: End::TooManyCalls(most),
         },
     }
 }
@@ -270,7 +302,11 @@ fn start(plan: &Plan, rows: &mut [u16], tally: Tally) -> Ended
     requires { ⌜ CallableIn (now plan) 0 0 × (length (now rows) ≤ 12288) ⌝ }
     ensures { λ r. ⌜ StartsIn (now (plan .entry)) (now (rows .entry)) tally r (now (rows .exit)) ⌝ }
 {
-    let outcome = call(plan, Procedure(0), 0, 0, 0, rows, tally);
+    let none = RowPair {
+        first: 0,
+        second: 0,
+    };
+    let outcome = call(plan, Procedure(0), 0, none, rows, tally);
     end_with(tally, outcome)
 }
 
@@ -330,12 +366,13 @@ fn answer_of(end: End, tally: Tally, free: usize, taken: usize) -> RunningAnswer
         End::Root(root) => RunningAnswer::Ran(wide(root), wide(tally.used), taken),
         End::NoRule(procedure) => RunningAnswer::NoRule(procedure),
         End::NoRow => RunningAnswer::NoRow(free),
-        End::TooManyCalls => RunningAnswer::TooManyCalls,
+        End::TooManyCalls(most) => RunningAnswer::TooManyCalls(most as usize),
     }
 }
 
 // Runs procedure 0 on a document, which is all of the numbers, with room for where the trees of its places end.
 fn run_with(
+    stay: Symbol,
     counts: &[u16],
     nodes: &[u16],
     rules: &[u16],
@@ -343,11 +380,12 @@ fn run_with(
     ends: &mut [u16],
     rows: &mut [u16],
 ) -> RunningAnswer
-    requires { ⌜ Admitted (now counts) (now nodes) (now rules) × ReadDocument (now numbers) × (length (now numbers) ≤ length (now ends)) × (length (now rows) ≤ 12288) ⌝ }
-    ensures { λ r. ⌜ Closes (now (counts .entry)) (now (nodes .entry)) (now (rules .entry)) (now (numbers .entry)) (now (rows .entry)) r (now (rows .exit)) ⌝ }
+    requires { ⌜ Admitted (transformationOf (stay .0) (now counts) (now nodes) (now rules)) × ReadDocument (now numbers) × (length (now numbers) ≤ length (now ends)) × (length (now rows) ≤ 12288) ⌝ }
+    ensures { λ r. ⌜ Closes (transformationOf (stay .0) (now (counts .entry)) (now (nodes .entry)) (now (rules .entry))) (now (numbers .entry)) (now (rows .entry)) r (now (rows .exit)) ⌝ }
 {
     fill_ends(numbers, ends);
-    let table = plan(counts, nodes, rules, numbers, ends);
+    let mut table = blank_plan();
+    fill_plan(&mut table, stay, counts, nodes, rules, numbers, ends);
     let work = start_anew(&table, rows);
     let end = work.end;
     let tally = work.tally;
@@ -357,21 +395,22 @@ fn run_with(
 
 // Runs procedure 0 on a document. There is room for the ends of sixteen trees or of as many as there may be.
 fn run_document(
+    stay: Symbol,
     counts: &[u16],
     nodes: &[u16],
     rules: &[u16],
     numbers: &[u16],
     rows: &mut [u16],
 ) -> RunningAnswer
-    requires { ⌜ Admitted (now counts) (now nodes) (now rules) × ReadDocument (now numbers) × (length (now rows) ≤ 12288) ⌝ }
-    ensures { λ r. ⌜ Closes (now (counts .entry)) (now (nodes .entry)) (now (rules .entry)) (now (numbers .entry)) (now (rows .entry)) r (now (rows .exit)) ⌝ }
+    requires { ⌜ Admitted (transformationOf (stay .0) (now counts) (now nodes) (now rules)) × ReadDocument (now numbers) × (length (now rows) ≤ 12288) ⌝ }
+    ensures { λ r. ⌜ Closes (transformationOf (stay .0) (now (counts .entry)) (now (nodes .entry)) (now (rules .entry))) (now (numbers .entry)) (now (rows .entry)) r (now (rows .exit)) ⌝ }
 {
     if numbers.len() <= 16 {
         let mut ends = [0u16; 16];
-        return run_with(counts, nodes, rules, numbers, &mut ends, rows);
+        return run_with(stay, counts, nodes, rules, numbers, &mut ends, rows);
     }
     let mut ends = [0u16; 1023];
-    run_with(counts, nodes, rules, numbers, &mut ends, rows)
+    run_with(stay, counts, nodes, rules, numbers, &mut ends, rows)
 }
 
 // Refusal 9: the row buffer is no whole number of rows, or too many.
@@ -422,16 +461,16 @@ fn run_admitted(
     numbers: &[u16],
     rows: &mut [u16],
 ) -> RunningAnswer
-    requires { ⌜ Admitted (now counts) (now nodes) (now rules) ⌝ }
-    requires { ⌜ Between 1 16 symbols ⌝ }
-    ensures { λ r. ⌜ EndsWith (afterAdmission (transformationOf (now (counts .entry)) (now (nodes .entry)) (now (rules .entry)) symbols) (now (numbers .entry)) (now (rows .entry))) (runningAnswer r) (now (rows .exit)) ⌝ }
+    requires { ⌜ Admitted (transformationOf symbols (now counts) (now nodes) (now rules)) ⌝ }
+    ensures { λ r. ⌜ EndsWith (afterAdmission (transformationOf symbols (now (counts .entry)) (now (nodes .entry)) (now (rules .entry))) (now (numbers .entry)) (now (rows .entry))) (runningAnswer r) (now (rows .exit)) ⌝ }
 {
     let reading = read(symbols, numbers);
     let taken = taken_of(reading);
+    let stay = symbols as u16;
     match verdict_before(reading, rows.len()) {
         Verdict::Buffer => RunningAnswer::Buffer,
         Verdict::Document(fault) => RunningAnswer::Document(fault),
-        Verdict::Fine => run_document(counts, nodes, rules, &numbers[..taken], rows),
+        Verdict::Fine => run_document(Symbol(stay), counts, nodes, rules, &numbers[..taken], rows),
     }
 }
 

@@ -12,15 +12,15 @@ use Rattle.model.specs.Trees.{everyTree, preorder}
 use Rattle.model.specs.Documents.{joined, forest, leadingFrom, leading, treeOf, documentTree, reading, numbersTaken, leadingTree, endless, faultOf, leadingVerdict}
 use Rattle.model.specs.Rows.{treeBelow, treeAt}
 use Rattle.model.specs.Tables.{Contract}
-use Rattle.model.specs.Expressions.{expressionOf, expressionBelow, expression, greatestParameter, holdsCall}
+use Rattle.model.specs.Expressions.{expressionOf, expressionBelow, expression, greatestParameter, holdsCall, holdsCallTo}
 use Rattle.model.specs.Answers.{_then_, refuseIf, refuseFirst, refuseLowest, given, Answer, admitted, judged, pass, tree, ran, written, refusal, stopped}
 use Rattle.model.specs.Admission.{nodeFault, lowestNodeFault, sizes, lengths, inputRows, entries, counts, nodes, rules, facts, admission, admit}
-use Rattle.model.specs.Facts.{yields, factsAt, fact, digits, code, offset, factNumber, numberedFrom, numbered}
-use Rattle.model.specs.Kinds.{reachedEmpty, reachedNext, withMarks, marksIn, kindWords, stateIn, bitOfFact, factsIn, emptyKind, nextKind, kindOf, ofInputType, hasWrongOutput, isTaken, breaks}
+use Rattle.model.specs.Facts.{yields, factsAt, stayRound, stayRounds, closedFacts, fact, digits, code, offset, factNumber, numberedFrom, numbered}
+use Rattle.model.specs.Kinds.{reachedEmpty, reachedNext, withMarks, marksIn, kindWords, stateIn, bitOfFact, factsIn, leafKind, symbolKind, stayKind, emptyKind, nextKind, kindOf, ofInputType, hasWrongOutput, isTaken, breaks}
 use Rattle.model.specs.Rounds.{lists, added, roundTo, round, listingFrom, listing}
 use Rattle.model.specs.Judging.{judgement, judgingVerdict, judging}
 use Rattle.model.specs.Checking.{rowNumbers, kindNumbers, stopHeight, standing, firstBreaking, answered, check, checkingVerdict, checking}
-use Rattle.model.specs.Running.{_after_, addRow, countCall, seekRule, evaluate, runAt, runOn, run, closing, runningVerdict, running}
+use Rattle.model.specs.Running.{_after_, mostCalls, addRow, countCall, seekRule, evaluate, runAt, runOn, run, closing, runningVerdict, running}
 use Rattle.model.specs.WritingOut.{writingVerdict, writingOut}
 use Rattle.worked_table.specs.Questions
 use Rattle.worked_table.specs.Questions.{Question, Reply, lent, ask}
@@ -68,10 +68,10 @@ table =
     -- X3, the same
     ∷ line (C1 (0 ∷ 1 ∷ [])) (Questions.check 1) (stopped 1 0) (closed 1 [] [])
     ∷ line (C1 (0 ∷ 1 ∷ [])) (Questions.check 3) (pass 3) (closed 3 threeRows (threeKinds 1 2 2))
-    -- X4, and its row 1 written out
+    -- X4, and its row 1 written out, from the first 32 rows
     ∷ line (C1 (1 ∷ 0 ∷ [])) (Questions.check 512) (tree 1)
     (closed 512 (0 ∷ 0 ∷ 0 ∷ 1 ∷ 0 ∷ 0 ∷ []) (noRoot 1 ∷ 1 ∷ 0 ∷ 0 ∷ 0 ∷ oneRoot 1 ∷ 2 ∷ 0 ∷ 0 ∷ 0 ∷ []))
-    ∷ line (C1 (1 ∷ 0 ∷ [])) (Questions.writeOut (zeroFilled (3 * 512) (0 ∷ 0 ∷ 0 ∷ 1 ∷ 0 ∷ 0 ∷ [])) 1 4) (written 3) ((1 ∷ 0 ∷ 0 ∷ 7 ∷ []) ∷ [])
+    ∷ line (C1 (1 ∷ 0 ∷ [])) (Questions.writeOut (zeroFilled (3 * 32) (0 ∷ 0 ∷ 0 ∷ 1 ∷ 0 ∷ 0 ∷ [])) 1 4) (written 3) ((1 ∷ 0 ∷ 0 ∷ 7 ∷ []) ∷ [])
     -- X5
     ∷ line (C1 (1 ∷ 0 ∷ [])) (Questions.check 1) (stopped 1 0) (closed 1 [] [])
     -- X6
@@ -99,7 +99,7 @@ table =
     ∷ line (Noded (0 ∷ 3 ∷ 0 ∷ 0 ∷ 0 ∷ [])) Questions.admit (refusal 31 0) []
     ∷ line (Noded (1 ∷ 2 ∷ 0 ∷ 0 ∷ 0 ∷ [])) Questions.admit (refusal 31 0) []
     ∷ line (Noded (2 ∷ 3 ∷ 1 ∷ 0 ∷ 0 ∷ [])) Questions.admit (refusal 31 0) []
-    ∷ line (Noded (2 ∷ 0 ∷ 0 ∷ 0 ∷ 0 ∷ [])) Questions.admit (refusal 32 0) []
+    ∷ line (Noded (2 ∷ 0 ∷ 3 ∷ 0 ∷ 0 ∷ [])) Questions.admit (refusal 32 0) []
     -- a node that refers to itself: an output symbol, and a call by its second argument
     ∷ line (Noded (1 ∷ 0 ∷ 0 ∷ 0 ∷ 0 ∷ 1 ∷ 1 ∷ 0 ∷ 0 ∷ 1 ∷ [])) Questions.admit (refusal 33 1) []
     ∷ line (Noded (1 ∷ 0 ∷ 0 ∷ 0 ∷ 0 ∷ 2 ∷ 2 ∷ 1 ∷ 0 ∷ 1 ∷ [])) Questions.admit (refusal 33 1) []
@@ -142,13 +142,13 @@ table =
 unfoldable pub computing : Unit {0}
 unfolding _and_ _or_ same below someBelow everyBelow first greatest bit word zeroFilled sameList
     everyTree preorder joined forest leadingFrom leading treeOf documentTree reading numbersTaken leadingTree endless faultOf leadingVerdict treeBelow treeAt
-    expressionOf expressionBelow expression greatestParameter holdsCall _then_ refuseIf refuseFirst refuseLowest nodeFault lowestNodeFault given
+    expressionOf expressionBelow expression greatestParameter holdsCall holdsCallTo _then_ refuseIf refuseFirst refuseLowest nodeFault lowestNodeFault given
     sizes lengths inputRows entries counts nodes rules facts admission admit
-    yields factsAt fact digits code offset factNumber numberedFrom numbered
-    reachedEmpty reachedNext withMarks marksIn kindWords stateIn bitOfFact factsIn emptyKind nextKind kindOf ofInputType hasWrongOutput isTaken breaks
+    yields factsAt stayRound stayRounds closedFacts fact digits code offset factNumber numberedFrom numbered
+    reachedEmpty reachedNext withMarks marksIn kindWords stateIn bitOfFact factsIn leafKind symbolKind stayKind emptyKind nextKind kindOf ofInputType hasWrongOutput isTaken breaks
     lists added roundTo round listingFrom listing judgement judgingVerdict judging
     rowNumbers kindNumbers stopHeight standing firstBreaking answered check checkingVerdict checking
-    _after_ addRow countCall seekRule evaluate runAt runOn run closing runningVerdict running writingVerdict writingOut ask
+    _after_ mostCalls addRow countCall seekRule evaluate runAt runOn run closing runningVerdict running writingVerdict writingOut ask
 computing = tt
 
 -- the definitions give every answer of the table, and leave the buffers as it says

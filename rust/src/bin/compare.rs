@@ -8,7 +8,7 @@ use goosedawn::contract::Contract;
 use goosedawn::counters::Counters;
 use goosedawn::engine::{Answer, Engine};
 use goosedawn::generator::{document, Random};
-use goosedawn::library::{Library, RUN_STACK};
+use goosedawn::library::{Library, STAY_RUN_STACK};
 use goosedawn::script::{checks, named_by_argument};
 use goosedawn::timing::{heads, in_turns, in_turns_by_other_rules, print_checks, Times};
 use std::fmt::Debug;
@@ -153,6 +153,6 @@ fn compare() {
 
 /// The whole comparison has the stack that runs need, so that no time has the start of a thread in it.
 fn main() {
-    let thread = thread::Builder::new().stack_size(RUN_STACK).spawn(compare);
+    let thread = thread::Builder::new().stack_size(STAY_RUN_STACK).spawn(compare);
     thread.expect("a thread").join().expect("a comparison");
 }

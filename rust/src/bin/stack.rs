@@ -3,13 +3,16 @@
 //! Children of this program play the script, all of it, on stacks of ever closer sizes; one that is too small ends the
 //! child.
 
-use goosedawn::library::{Library, RUN_STACK};
+use goosedawn::library::Library;
 use goosedawn::script::play;
 use std::process::{exit, Command, Stdio};
 use std::thread;
 
 /// The size is found to this many bytes, a page.
 const PAGE: usize = 4096;
+
+/// The largest size that is tried, four times what the deepest run of all is given.
+const MOST: usize = 1 << 30;
 
 fn fits(file: &str, run_stack: usize) -> bool {
     let program = std::env::current_exe().expect("this program");
@@ -22,7 +25,7 @@ fn main() {
     let words: Vec<String> = std::env::args().skip(1).collect();
     match words.as_slice() {
         [file] => {
-            let (mut small, mut large) = (0, RUN_STACK / PAGE);
+            let (mut small, mut large) = (0, MOST / PAGE);
             if !fits(file, large * PAGE) {
                 println!("{file}: more than {} bytes", large * PAGE);
                 exit(1);

@@ -89,7 +89,7 @@ fn node_fault(contract: &Contract, node: usize) -> Option<u64> {
     };
     let fields = [first, second];
     let (used, unused) = fields.split_at(references);
-    if tag == 2 && child != 1 && child != 2 {
+    if tag == 2 && child > 2 {
         Some(32)
     } else if used.iter().any(|&reference| reference >= node) {
         Some(33)
@@ -100,30 +100,55 @@ fn node_fault(contract: &Contract, node: usize) -> Option<u64> {
     }
 }
 
-/// The greatest parameter that a node uses, directly or below, and whether it holds a call.
-fn node_uses(contract: &Contract) -> Vec<(usize, bool)> {
-    let mut uses: Vec<(usize, bool)> = Vec::new();
-    for node in 0..contract.node_count() {
-        let [tag, name, _, first, second] = contract.node_numbers(node);
-        let references = match tag {
-            0 => 0,
-            1 => usize::from(name != 0) * 2,
-            _ => contract.count(name),
-        };
-        let mut use_here = if tag == 0 { (name, false) } else { (0, tag == 2) };
-        for below in [first, second].into_iter().take(references) {
-            use_here = (use_here.0.max(uses[below].0), use_here.1 | uses[below].1);
+/// What a node uses, directly or below: the greatest parameter, and whether calls stay at the node or go to a child.
+#[derive(Clone, Copy, Debug)]
+pub struct Uses {
+    pub parameter: usize,
+    pub stays: bool,
+    pub descends: bool,
+}
+
+impl Uses {
+    fn and(self, other: Uses) -> Uses {
+        Uses {
+            parameter: self.parameter.max(other.parameter),
+            stays: self.stays || other.stays,
+            descends: self.descends || other.descends,
         }
-        uses.push(use_here);
+    }
+}
+
+/// What each node uses; none of them is bad.
+pub fn node_uses(contract: &Contract) -> Vec<Uses> {
+    let mut uses = Vec::new();
+    for node in 0..contract.node_count() {
+        uses.push(uses_of(contract, &uses, node));
     }
     uses
 }
 
-fn rule_wrong(contract: &Contract, uses: &[(usize, bool)], rule: usize) -> bool {
+/// What a node uses, from what the earlier ones do.
+pub fn uses_of(contract: &Contract, earlier: &[Uses], node: usize) -> Uses {
+    let [tag, name, child, first, second] = contract.node_numbers(node);
+    let references = match tag {
+        0 => 0,
+        1 => usize::from(name != 0) * 2,
+        _ => contract.count(name),
+    };
+    let own = Uses {
+        parameter: if tag == 0 { name } else { 0 },
+        stays: tag == 2 && child == 0,
+        descends: tag == 2 && child != 0,
+    };
+    [first, second].into_iter().take(references).map(|node| earlier[node]).fold(own, Uses::and)
+}
+
+fn rule_wrong(contract: &Contract, uses: &[Uses], rule: usize) -> bool {
     let [procedure, symbol, node] = contract.rule(rule);
-    if procedure >= contract.procedures() || symbol >= contract.symbols || node >= uses.len() {
+    if procedure >= contract.procedures() || symbol > contract.stay() || node >= uses.len() {
         return true;
     }
-    let (parameter, call) = uses[node];
-    parameter > contract.count(procedure) || (symbol == 0 && call)
+    let Uses { parameter, stays, descends } = uses[node];
+    let wrong_calls = if symbol == contract.stay() { descends } else { stays || (symbol == 0 && descends) };
+    parameter > contract.count(procedure) || wrong_calls
 }

@@ -33,7 +33,10 @@ struct Facts {
     parameters: usize,
 }
 
-/// The rules for a symbol of the procedures with one number of parameters, with the nodes that they reach, ascending.
+/// No facts: what stands where no call goes.
+const NONE: Parts = Parts { inputs: 0, given: [0; 256] };
+
+/// The rules for a symbol, or the stay rules, of the procedures with one number of parameters, with the nodes that they reach, ascending.
 struct Pass {
     count: usize,
     rules: Vec<(usize, usize)>,
@@ -46,9 +49,11 @@ pub struct Kinds<'a> {
     facts: Vec<Facts>,
     /// By symbol: the input rows, as state, left and right.
     rows_of: Vec<Vec<[usize; 3]>>,
+    /// By symbol; behind them those of the stay rules.
     passes_of: Vec<Vec<Pass>>,
     /// By symbol, left and right states: the states of the symbol over them.
     joined: Vec<[[States; 16]; 16]>,
+    has_stays: bool,
     accepted_inputs: u64,
     breaking_facts: u64,
 }
@@ -64,8 +69,9 @@ impl<'a> Kinds<'a> {
             contract,
             facts: facts(contract),
             rows_of,
-            passes_of: (0..contract.symbols).map(|symbol| passes(contract, symbol)).collect(),
+            passes_of: (0..=contract.stay()).map(|symbol| passes(contract, symbol)).collect(),
             joined: (0..contract.symbols).map(|symbol| joined(contract, symbol)).collect(),
+            has_stays: contract.has_stay_rules(),
             accepted_inputs: mask(&contract.input_marks, 1),
             breaking_facts: mask(&contract.output_marks, 0),
         }
@@ -86,17 +92,18 @@ impl<'a> Kinds<'a> {
         parts
     }
 
-    /// What a node gives under one assignment, from what the nodes below it give.
-    fn value(&self, node: Node, children: [&Parts; 2], assignment: [usize; 2], values: &[States; 256]) -> States {
+    /// What a node gives under one assignment, from what the nodes below it give. The parts are those of the tree itself and
+    /// of its left and its right child.
+    fn value(&self, node: Node, parts: [&Parts; 3], assignment: [usize; 2], values: &[States; 256]) -> States {
         match node {
             Node::Parameter(parameter) => 1 << assignment[parameter],
             Node::Empty => 1 << self.contract.output_table[0],
             Node::Symbol(symbol, left, right) => {
                 self.joined[symbol][usize::from(values[left])][usize::from(values[right])]
             }
-            Node::Call { procedure, right, first, second } => {
+            Node::Call { procedure, child, first, second } => {
                 let part = self.facts[procedure].part;
-                let given = &children[usize::from(right)].given;
+                let given = &parts[child as usize].given;
                 let states = self.contract.output_states;
                 match self.contract.count(procedure) {
                     0 => given[part],
@@ -109,13 +116,8 @@ impl<'a> Kinds<'a> {
         }
     }
 
-    /// The kind of a symbol over two kinds. For symbol 0 they are not looked at.
-    pub fn kind(&self, symbol: usize, left: &Parts, right: &Parts) -> Kind {
-        let mut kind = [mark(symbol, right), 0, 0, 0, 0];
-        for &[state, first, second] in &self.rows_of[symbol] {
-            let reached = symbol == 0 || left.inputs >> first & right.inputs >> second & 1 == 1;
-            kind[0] |= u64::from(reached) << state;
-        }
+    /// Adds the facts that the rules for a symbol give, or the stay rules.
+    fn add_facts(&self, kind: &mut Kind, symbol: usize, parts: [&Parts; 3]) {
         let mut values = [0; 256];
         let states = self.contract.output_states;
         for pass in &self.passes_of[symbol] {
@@ -123,7 +125,7 @@ impl<'a> Kinds<'a> {
             for code in 0..parameters {
                 let assignment = if pass.count == 2 { [code / states, code % states] } else { [code, 0] };
                 for &(place, node) in &pass.nodes {
-                    values[place] = self.value(node, [left, right], assignment, &values);
+                    values[place] = self.value(node, parts, assignment, &values);
                 }
                 for &(procedure, node) in &pass.rules {
                     for state in each(values[node]) {
@@ -133,13 +135,45 @@ impl<'a> Kinds<'a> {
                 }
             }
         }
+    }
+
+    /// The kind of a symbol over two kinds by its own rules, without the stay rules.
+    fn before_stays(&self, symbol: usize, left: &Parts, right: &Parts) -> Kind {
+        let mut kind = [mark(symbol, right), 0, 0, 0, 0];
+        for &[state, first, second] in &self.rows_of[symbol] {
+            let reached = symbol == 0 || left.inputs >> first & right.inputs >> second & 1 == 1;
+            kind[0] |= u64::from(reached) << state;
+        }
+        self.add_facts(&mut kind, symbol, [&NONE, left, right]);
         kind
+    }
+
+    /// A kind with the facts that the stay rules add to its own.
+    pub fn stay_round(&self, kind: &Kind) -> Kind {
+        let mut more = *kind;
+        self.add_facts(&mut more, self.contract.stay(), [&self.parts(kind), &NONE, &NONE]);
+        more
+    }
+
+    /// The kind of a symbol over two kinds, which for symbol 0 are not looked at: what its own rules make, and then round by
+    /// round what the stay rules add, until a round adds nothing. So its facts are the least set closed under both.
+    pub fn kind(&self, symbol: usize, left: &Parts, right: &Parts) -> Kind {
+        if !self.has_stays {
+            return self.before_stays(symbol, left, right);
+        }
+        let mut kind = self.before_stays(symbol, left, right);
+        loop {
+            let more = self.stay_round(&kind);
+            if more == kind {
+                return kind;
+            }
+            kind = more;
+        }
     }
 
     /// The kind of the empty forest.
     pub fn empty(&self) -> Kind {
-        let none = Parts { inputs: 0, given: [0; 256] };
-        self.kind(0, &none, &none)
+        self.kind(0, &NONE, &NONE)
     }
 
     /// The kind of a document without a fault.

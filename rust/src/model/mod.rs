@@ -1,5 +1,6 @@
 //! An independent model of the operations, written to be read: bit masks for sets of states, one ascending pass over
-//! the nodes for each assignment of parameter states, no pair of rows visited twice, kinds looked up by hash.
+//! the nodes for each assignment of parameter states, stay rules in rounds until one adds nothing, no pair of rows visited
+//! twice, kinds looked up by hash.
 
 pub mod admission;
 pub mod checking;

@@ -2,16 +2,16 @@
 use mathlib.Core.Path.{_≡_, subst}
 use Prim.Native.Nat.{ℕ, _-_, _≤_}
 use native.Mathlib.Omega.{arith}
-use Rattle.kind_words.specs.Sizes.{mostSymbols}
+use Rattle.kind_words.specs.Sizes.{ruleSymbols}
 use Rattle.chains.specs.Chaining.{Emptied, emptied-none, emptied-more}
 use Rattle.chains.proofs.no_numbers.Statement.{statement}
 use Rattle.chains.proofs.no_numbers.Tie as tie
 
 abbrev Inv-loop : tie.InvT-loop
-Inv-loop lists₀ firsts n entry s₀ lists s = (s ≤ mostSymbols) × Emptied firsts n s lists₀ lists
+Inv-loop lists₀ firsts n entry s₀ lists s = (s ≤ ruleSymbols) × Emptied firsts n s lists₀ lists
 
 abbrev μ-loop : tie.MeasureT-loop
-μ-loop lists₀ firsts n entry s₀ lists s = mostSymbols - s
+μ-loop lists₀ firsts n entry s₀ lists s = ruleSymbols - s
 
 entry-of-requires : tie.Need-entry-of-requires Inv-loop μ-loop
 entry-of-requires c κs = omega (arith, c .before .pre .1)
@@ -42,7 +42,7 @@ same-length c = c .before .loop .inv .1 .long
 
 returns : tie.Need-returns Inv-loop μ-loop
 returns c =
-    let e : c .before .loop .s ≡ mostSymbols = omega arith in
+    let e : c .before .loop .s ≡ ruleSymbols = omega arith in
     subst (λ (x : ℕ). Emptied (c .before .before .before .before .args .firsts) (c .before .before .before .before .args .n) x (c .before .before .before .before .args .lists .now) (c .before .loop .lists)) e (c .before .loop .inv .1)
 
 pub no-numbers-spec : {M : Type 1} → statement M

@@ -11,7 +11,7 @@ side-masks-requires-2 : tie.Need-side-masks-requires-2
 side-masks-requires-2 c κs = search needs
 
 returns : tie.Need-returns
-returns c = covered _ _ _ (c .before .before .side-masks .ensures) (c .side-masks2 .ensures)
+returns c = covered _ (c .before .before .before .before .before .pre .prepared .established) _ _ (c .before .before .side-masks .ensures) (c .side-masks2 .ensures)
 
 pub masks-of-spec : {M : Type 1} → statement M
 masks-of-spec = tie.close (tie.spec side-masks-requires side-masks-requires-2 returns)

@@ -8,7 +8,7 @@ use native.Mathlib.Nat.{not-suc-le-zero}
 use native.Mathlib.Decide.{decLt}
 use native.Mathlib.Omega.{arith}
 use borrow.Author.Tests.{ltb-false, lt-ltb, le-ltb}
-use Rattle.foundation.specs.Search.{first, first-clear}
+use Rattle.foundation.specs.Search.{first, first-clear, first-cong}
 use Rattle.model.specs.Answers.{Verdict, fine, refused, _then_, refuseIf, refuseFirst, refuseLowest, admitted, refusal, given}
 
 pub refused-not-fine : (number place : ℕ) → refused number place ≡ fine → ⊥
@@ -41,6 +41,12 @@ pub then-assoc : (u v w : Verdict) → ((u then v) then w) ≡ (u then v then w)
 unfolding _then_
 then-assoc fine v w = refl
 then-assoc (refused number place) v w = refl
+
+-- equal verdicts, the second ones where the first are fine
+pub then-same : (v v′ w w′ : Verdict) → v ≡ v′ → (v ≡ fine → w ≡ w′) → (v then w) ≡ (v′ then w′)
+unfolding _then_
+then-same fine v′ w w′ e h = rw (← e) (h refl)
+then-same (refused number place) v′ w w′ e h = rw (← e)
 
 pub refuse-if-fine : (test : Bool) (number place : ℕ) → refuseIf test number place ≡ fine → test ≡ false
 unfolding refuseIf
@@ -85,6 +91,20 @@ module _ (number : ℕ) (bad : ℕ → Bool) (n : ℕ) where
   pub refuse-first-at : (place : ℕ) → place ≡ first bad n → place < n → refuseFirst number bad n ≡ refused number place
   unfolding refuseFirst
   refuse-first-at place e h = refuse-if-refused _ number (first bad n) (lt-ltb (first bad n) n (omega arith)) ∙ rw e
+
+-- equal tests
+pub refuse-first-same : (number : ℕ) (bad bad′ : ℕ → Bool) (n : ℕ) → ((k : ℕ) → k < n → bad k ≡ bad′ k)
+    → refuseFirst number bad n ≡ refuseFirst number bad′ n
+unfolding refuseFirst
+refuse-first-same number bad bad′ n h = rw (first-cong bad bad′ n h)
+
+-- equal verdicts of entries
+pub refuse-lowest-same : (verdict verdict′ : ℕ → Verdict) (n : ℕ) → ((k : ℕ) → k < n → verdict k ≡ verdict′ k)
+    → refuseLowest verdict n ≡ refuseLowest verdict′ n
+unfolding refuseLowest
+refuse-lowest-same verdict verdict′ zero h = refl
+refuse-lowest-same verdict verdict′ (suc n) h =
+    then-same _ _ _ _ (refuse-lowest-same verdict verdict′ n (λ k l. h k (omega arith))) (λ f. h n (omega arith))
 
 -- entries with a verdict each
 module _ (verdict : ℕ → Verdict) where
@@ -149,6 +169,13 @@ module _ {A : Type 0} (onRefusal : ℕ → ℕ → A) (a : A) where
 
   pub given-stopped : (v w : Verdict) (number place : ℕ) → v ≡ refused number place → given (v then w) onRefusal a ≡ onRefusal number place
   given-stopped v w number place e = given-refused (v then w) number place (then-refused v w number place e)
+
+-- equal verdicts, and what is given where the first part of them is fine
+pub given-same : {A : Type 0} (onRefusal : ℕ → ℕ → A) (v v′ w : Verdict) (a a′ : A) → v ≡ v′ → (v ≡ fine → a ≡ a′)
+    → given (v then w) onRefusal a ≡ given (v′ then w) onRefusal a′
+unfolding given _then_
+given-same onRefusal fine v′ w a a′ e h = rw (← e, h refl)
+given-same onRefusal (refused number place) v′ w a a′ e h = rw (← e)
 
 pub refusal-admits-nothing : (number place : ℕ) → refusal number place ≡ admitted → ⊥
 refusal-admits-nothing number place e = let z : _≡_ {A = ℕ} 0 1 = cc in omega arith

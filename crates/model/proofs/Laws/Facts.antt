@@ -17,7 +17,7 @@ use Rattle.foundation.specs.Lists.{sameList, same-list-eq, same-list-refl}
 use Rattle.foundation.specs.Bits.{bit-high}
 use Rattle.foundation.specs.Words.{bit, word, bit-word, word-lt, word-cong}
 use Rattle.model.specs.Tables.{Contract, Transformation, OutputType, countOf, nodeAt, nodeCount, ruleAt, ruleCount}
-use Rattle.model.specs.Expressions.{Child, left, right, Expression, parameter, nothing, symbol, call, Arguments, none, argument, argumentsOf, expression}
+use Rattle.model.specs.Expressions.{Child, left, right, here, Expression, parameter, nothing, symbol, call, Arguments, none, argument, argumentsOf, expression}
 use Rattle.model.specs.Outputs.{rightSide}
 use Rattle.model.specs.Facts.{FactSet, onSide, yields, yieldsAll, factsAt, digits, code, offset, factTotal, factNumber, numberedFrom, numbered}
 use Rattle.model.specs.Kinds.{RootMarks, rootBit, emptyBit, withMarks, marksIn, numberedFact, kindWords, stateIn, bitOfFact, factsIn}
@@ -210,6 +210,7 @@ module _ (O : ℕ) (counts : List ℕ) where
   pub same-facts-sides : {l l′ r r′ : FactSet} → SameFacts l l′ → SameFacts r r′ → (c : Child) → SameFacts (onSide l r c) (onSide l′ r′ c)
   same-facts-sides a b left = a
   same-facts-sides a b right = b
+  same-facts-sides a b here = b
 
   -- two sets that agree on facts have the same facts by number
   pub numbered-same : (facts facts′ : FactSet) → SameFacts facts facts′ → (f : ℕ) → numbered O counts facts f ≡ numbered O counts facts′ f

@@ -19,10 +19,11 @@ use Rattle.foundation.specs.Bits.{bit-and, bit-high, bit-ones, word-unique}
 use Rattle.model.specs.Trees.{Tree, empty, node}
 use Rattle.model.specs.Tables.{Contract}
 use Rattle.model.specs.Facts.{FactSet}
-use Rattle.model.specs.Kinds.{reachedNext, RootMarks, rootBit, emptyBit, withMarks, marksIn, numberedFact, kindWords, stateIn, bitOfFact, factsIn, emptyKind, nextKind, kindOf, ofInputType, hasWrongOutput, isTaken, breaks}
+use Rattle.model.specs.Kinds.{reachedNext, RootMarks, rootBit, emptyBit, withMarks, marksIn, numberedFact, kindWords, stateIn, bitOfFact, factsIn, leafKind, symbolKind, emptyKind, nextKind, kindOf, ofInputType, hasWrongOutput, isTaken, breaks}
 use Rattle.model.specs.Examining.{masked, SameBits}
 use Rattle.model.proofs.Laws.Established.{Established}
 use Rattle.model.proofs.Laws.RootMarks.{same-marks, with-marks-lt, state-beside-marks, root-bit, empty-bit}
+use Rattle.model.proofs.Laws.Stays.{stay-words, next-same}
 use Rattle.model.proofs.Laws.Facts.{factCount, SameFactsOf, same-facts-sides, fact-number-lt, fact-of-number, numbered-fact, numbered-none, state-in-words, marks-in-words, facts-in-words, length-words, words-same, facts-at-same, right-side-well-formed}
 
 and-turned : (a b : Bool) → (a and b) ≡ (b and a)
@@ -52,12 +53,12 @@ module _ (C : Contract) (known : Established C) where
       (facts-in-words C marks reaches facts (known .facts))
 
   pub masked-empty : masked C (emptyKind C) ≡ emptyKind C
-  unfolding emptyKind
-  masked-empty = masked-words _ _ _
+  unfolding emptyKind leafKind
+  masked-empty = rw (stay-words C _ _ _) (masked-words _ _ _)
 
   pub masked-next : (s : ℕ) (l r : List ℕ) → masked C (nextKind C s l r) ≡ nextKind C s l r
-  unfolding nextKind
-  masked-next s l r = masked-words _ _ _
+  unfolding nextKind symbolKind
+  masked-next s l r = rw (stay-words C _ _ _) (masked-words _ _ _)
 
   pub masked-kind : (t : Tree) → masked C (kindOf C t) ≡ kindOf C t
   unfolding kindOf
@@ -99,9 +100,9 @@ module _ (C : Contract) (known : Established C) where
   )
 
   -- what is made of kinds, and whether one breaks the contract, does not hang on other bits
-  pub next-masked : (s : ℕ) (l r : List ℕ) → nextKind C s (masked C l) (masked C r) ≡ nextKind C s l r
-  unfolding nextKind reachedNext
-  next-masked s l r =
+  symbol-masked : (s : ℕ) (l r : List ℕ) → symbolKind C s (masked C l) (masked C r) ≡ symbolKind C s l r
+  unfolding symbolKind reachedNext
+  symbol-masked s l r =
       words-same C _ _ _ _ (let left = masked-marks l in let right = masked-marks r in cc)
       (λ q h.
       some-cong _ _ _
@@ -112,6 +113,9 @@ module _ (C : Contract) (known : Established C) where
       (same-facts-sides O (C .transformation .counts) (masked-facts l) (masked-facts r))
       (right-side-well-formed C known)
       s)
+
+  pub next-masked : (s : ℕ) (l r : List ℕ) → nextKind C s (masked C l) (masked C r) ≡ nextKind C s l r
+  next-masked s l r = next-same C s (masked C l) l (masked C r) r (symbol-masked s l r)
 
   taken-type-masked : (kind : List ℕ) → ofInputType C (masked C kind) ≡ ofInputType C kind
   unfolding ofInputType

@@ -1,6 +1,6 @@
 -- Nodes: a node has no fault exactly if it is one of those that document 01 describes; and what all others need to know of it.
 use mathlib.Core.Path.{_≡_}
-use mathlib.Core.Bool.{false, _||_, not}
+use mathlib.Core.Bool.{false, _||_}
 use mathlib.Core.List.{List}
 use mathlib.Core.Logic.{_↔_}
 use Prim.Native.Nat.{ℕ, _<_}
@@ -15,7 +15,7 @@ use Rattle.model.specs.Answers.{fine, refuseIf, _then_}
 use Rattle.model.specs.Admission.{references, tagWrong, nameWrong, childWrong, fieldWrong, fieldFilled, childFilled, referenceWrong, unusedFilled, nodeFault, ArgumentField, FaultlessNode, a-parameter, symbol-0, a-symbol, a-call}
 use Rattle.model.proofs.Laws.Answers.{then-fine-left, then-fine-right, refuse-if-fine}
 use Rattle.model.proofs.Laws.Established.{GoodNode, good-parameter, good-nothing, good-symbol, good-call}
-use Rattle.model.proofs.Laws.Tests.{and-right, NoneOf, inside, not-outside, not-eqb}
+use Rattle.model.proofs.Laws.Tests.{and-right, and-none, NoneOf, inside, not-outside, not-eqb}
 
 -- a field that is a reference and one that is not, by the tests
 module _ (used i k field : ℕ) where
@@ -61,6 +61,34 @@ module _ (S : ℕ) (counts : List ℕ) (k : ℕ) (n : Node) where
   fault-none : NoFault → nodeFault S counts k n ≡ fine
   unfolding nodeFault refuseIf _then_
   fault-none p = rw (p .one, p .two, p .three, p .four, p .five)
+
+  -- whatever the tag is
+  child-empty : n .child ≡ 0 → childFilled n ≡ false
+  child-empty c = rw (c, and-none)
+
+  -- a node that document 01 describes has none
+  no-fault-of : FaultlessNode S counts k n → NoFault
+  no-fault-of (a-parameter t l m c f s) =
+      record { one = rw t; two = rw t (not-outside 1 2 (n .name) l m); three = rw t; four = rw t; five = rw (child-empty c, t, f, s) }
+  no-fault-of (symbol-0 t z m c f s) =
+      record { one = rw t; two = rw (t, z, lt-leb S 0 m); three = rw t; four = rw (t, z); five = rw (child-empty c, t, z, f, s) }
+  no-fault-of (a-symbol t l m c f s) =
+      let ne : eqb (n .name) 0 ≡ false = ne-eqb (n .name) 0 (omega arith) in
+      record {
+        one = rw t;
+        two = rw (t, lt-leb S (n .name) m);
+        three = rw t;
+        four = rw (t, ne, lt-leb k (n .first) f, lt-leb k (n .second) s);
+        five = rw (child-empty c, t, ne);
+      }
+  no-fault-of (a-call t m c f s) =
+      record {
+        one = rw t;
+        two = rw (t, lt-leb (length counts) (n .name) m);
+        three = rw t (le-ltb 2 (n .child) c);
+        four = rw (t, field-right _ 1 k (n .first) f, field-right _ 2 k (n .second) s);
+        five = rw (t, field-empty _ 1 k (n .first) f, field-empty _ 2 k (n .second) s);
+      }
 
   -- what no fault says of the fields behind the name
   record Fields : Type 0 where
@@ -108,37 +136,12 @@ module _ (S : ℕ) (counts : List ℕ) (k : ℕ) (n : Node) where
 
   faultless-call : NoFault → n .tag ≡ 2 → FaultlessNode S counts k n
   faultless-call p t =
-      let child = inside 1 2 (n .child) (rw t at (p .three)) in
-      a-call t (leb-false (length counts) (n .name) (rw t at (p .two))) (child .least≤) (child .≤most) (rw t at (fields p .first)) (rw t at (fields p .second))
+      a-call t (leb-false (length counts) (n .name) (rw t at (p .two))) (ltb-false 2 (n .child) (rw t at (p .three))) (rw t at (fields p .first)) (rw t at (fields p .second))
 
   faultless-by-tag : NoFault → Dec (n .tag ≡ 0) → Dec (n .tag ≡ 1) → FaultlessNode S counts k n
   faultless-by-tag p (yes t) d = faultless-parameter p t
   faultless-by-tag p (no t) (yes u) = faultless-symbol p u
   faultless-by-tag p (no t) (no u) = faultless-call p (omega (arith, ltb-false 2 (n .tag) (p .one)))
-
-  -- and back
-  no-fault-of : FaultlessNode S counts k n → NoFault
-  no-fault-of (a-parameter t l m c f s) =
-      record { one = rw t; two = rw t (not-outside 1 2 (n .name) l m); three = rw t; four = rw t; five = rw (t, c, f, s) }
-  no-fault-of (symbol-0 t z m c f s) =
-      record { one = rw t; two = rw (t, z, lt-leb S 0 m); three = rw t; four = rw (t, z); five = rw (t, z, c, f, s) }
-  no-fault-of (a-symbol t l m c f s) =
-      let ne : eqb (n .name) 0 ≡ false = ne-eqb (n .name) 0 (omega arith) in
-      record {
-        one = rw t;
-        two = rw (t, lt-leb S (n .name) m);
-        three = rw t;
-        four = rw (t, ne, lt-leb k (n .first) f, lt-leb k (n .second) s);
-        five = rw (t, ne, c);
-      }
-  no-fault-of (a-call t m l c f s) =
-      record {
-        one = rw t;
-        two = rw (t, lt-leb (length counts) (n .name) m);
-        three = rw t (not-outside 1 2 (n .child) l c);
-        four = rw (t, field-right _ 1 k (n .first) f, field-right _ 2 k (n .second) s);
-        five = rw (t, field-empty _ 1 k (n .first) f, field-empty _ 2 k (n .second) s);
-      }
 
   -- a node has no fault exactly if document 01 describes it
   pub faultless : (nodeFault S counts k n ≡ fine) ↔ FaultlessNode S counts k n
@@ -149,7 +152,7 @@ module _ (S : ℕ) (counts : List ℕ) (k : ℕ) (n : Node) where
   good (a-parameter t l m c f s) = good-parameter t l m
   good (symbol-0 t z m c f s) = good-nothing t z
   good (a-symbol t l m c f s) = good-symbol t l m f s
-  good (a-call t m l c f s) = good-call t m (record { least≤ = l; ≤most = c }) (f .0) (s .0)
+  good (a-call t m c f s) = good-call t m c (f .0) (s .0)
 
   -- a node without a fault is good
   pub good-node : nodeFault S counts k n ≡ fine → GoodNode S counts k n

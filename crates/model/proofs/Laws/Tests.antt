@@ -8,15 +8,28 @@ use Rattle.foundation.specs.TestLaws.{or-first, or-second}
 use Rattle.model.specs.Admission.{outside}
 use Rattle.model.proofs.Laws.Established.{Between}
 
--- a conjunction that fails though its first part holds, and one that does not fail
+-- a conjunction that fails though its first part holds; one whose second part fails; and one that does not fail
 pub and-right : (a b : Bool) → (a && b) ≡ false → a ≡ true → b ≡ false
 and-right true b e t = e
 and-right false b e t = absurd (false≢true t)
+
+pub and-none : (a : Bool) → (a && false) ≡ false
+and-none true = refl
+and-none false = refl
 
 pub both-true : (a b : Bool) → not (a && b) ≡ false → (a ≡ true) × (b ≡ true)
 both-true true true h = (refl, refl)
 both-true true false h = absurd (true≢false h)
 both-true false b h = absurd (true≢false h)
+
+-- a disjunction whose second part fails, and one whose second part holds
+pub or-none : (a : Bool) → (a || false) ≡ a
+or-none true = refl
+or-none false = refl
+
+pub or-sure : (a : Bool) → (a || true) ≡ true
+or-sure true = refl
+or-sure false = refl
 
 -- five tests that fail
 pub record NoneOf (a b c d e : Bool) : Type 0 where

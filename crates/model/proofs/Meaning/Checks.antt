@@ -24,7 +24,7 @@ check-of C good lent =
 
 -- a kind breaks an admitted contract exactly if each tree of that kind does
 pub breaks-admitted : (C : Contract) → Admitted C → (t : Tree) → TreeOf C t → T (breaks C (kindOf C t)) ↔ Breaks C t
-breaks-admitted C good t over = breaks-exactly C (established C good) t
+breaks-admitted C good t over = breaks-exactly C (established C good) t over
 
 -- Demand 2: what the answer of every check of every admitted contract means.
 pub check-meaning : (C : Contract) → Admitted C → (lent : Lent) → CheckMeans C lent

@@ -59,7 +59,7 @@ module _ (C : Contract) (numbers buffer : List ℕ) where
   reads good = reads-leading S numbers (established C good .symbols .least≤)
 
   judges-read : Admitted C → (t : Tree) (n : ℕ) → LeadingDocument S numbers t n → Judges C t result
-  judges-read good t n d = rw (reads good .tree t n d) (judgement-exactly C (established C good) t)
+  judges-read good t n d = rw (reads good .tree t n d) (judgement-exactly C (established C good) t (d .begins .over))
 
   -- what judging gives for each verdict
   passed : judgingVerdict C numbers buffer ≡ fine
@@ -134,7 +134,7 @@ module _ (C : Contract) (numbers buffer : List ℕ) where
           let t : Tree = m .document in
           ap (λ (j : Judged). j .answer) (judged-document (m .isAdmitted) (m .fiveWords) t n d)
           ∙ ap (λ (k : ℕ). judged k n)
-          (judges-same C t _ r (judgement-few C (kindOf C t)) (judgement-exactly C (established C (m .isAdmitted)) t) (m .judges))
+          (judges-same C t _ r (judgement-few C (kindOf C t)) (judgement-exactly C (established C (m .isAdmitted)) t (d .begins .over)) (m .judges))
 
       others : (r n : ℕ) → answered .answer ≡ judged r n → (t : Tree) → LeadingDocument S numbers t n → (OneRoot t → ⊥) → r ≡ 0
       others r n e t d not-one =
@@ -142,7 +142,7 @@ module _ (C : Contract) (numbers buffer : List ℕ) where
           let is : judged (judgement C (kindOf C t)) n ≡ judged r n =
           sym (ap (λ (j : Judged). j .answer) (judged-document (m .isAdmitted) (m .fiveWords) t n d)) ∙ e in
           let same : judgement C (kindOf C t) ≡ r = cc in
-          rw same at (judgement-exactly C (established C (m .isAdmitted)) t .zero .1 (λ taken. not-one (taken .oneRoot)))
+          rw same at (judgement-exactly C (established C (m .isAdmitted)) t (d .begins .over) .zero .1 (λ taken. not-one (taken .oneRoot)))
 
       one-of : (v : Verdict) → judgingVerdict C numbers buffer ≡ v → JudgedOrRefused (answered .answer)
       one-of fine e = is-judged result (numbersTaken S numbers) (ap (λ (j : Judged). j .answer) (passed e))

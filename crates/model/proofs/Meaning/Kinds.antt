@@ -11,16 +11,16 @@ use lib.ListN.{length, getD}
 use Rattle.foundation.specs.Tests.{choose, and-left, and-right, and-both, same-eq, eq-same, some-intro, some-elim, test-ext}
 use Rattle.model.specs.Trees.{Tree, empty, node, IsEmpty, OneRoot}
 use Rattle.model.specs.Tables.{Contract, InputType, inputRow, inputRowCount, markAt}
-use Rattle.model.specs.Expressions.{left, right}
 use Rattle.model.specs.Outputs.{Output}
-use Rattle.model.specs.Facts.{FactSet, fact, FactHolds, stateOf}
-use Rattle.model.specs.Kinds.{RootMarks, emptyMarks, marksOver, rootBit, emptyBit, marksIn, reachedEmpty, reachedNext, kindWords, stateIn, bitOfFact, factsIn, emptyKind, nextKind, kindOf, ofInputType, hasWrongOutput, isTaken, breaks}
+use Rattle.model.specs.Facts.{FactSet, closedFacts, fact, FactHolds, stateOf}
+use Rattle.model.specs.Kinds.{RootMarks, emptyMarks, marksOver, rootBit, emptyBit, marksIn, reachedEmpty, reachedNext, kindWords, stateIn, bitOfFact, factsIn, leafKind, symbolKind, stayKind, emptyKind, nextKind, kindOf, ofInputType, hasWrongOutput, isTaken, breaks}
 use Rattle.model.specs.Judging.{judgement}
 use Rattle.model.specs.Claims.{Reaches, Takes, Allows, Breaks}
-use Rattle.model.specs.Meaning.{Judges}
+use Rattle.model.specs.Meaning.{TreeOf, Judges}
 use Rattle.model.proofs.Laws.Established.{Established}
 use Rattle.model.proofs.Laws.RootMarks.{same-marks}
 use Rattle.model.proofs.Laws.Facts.{FactOf, factCount, SameFactsOf, same-facts-chain, same-facts-sides, state-in-words, marks-in-words, no-state-in-words, facts-in-words, no-fact-in-words, length-words, words-below, words-same, facts-at-same, right-side-well-formed}
+use Rattle.model.proofs.Laws.Stays.{stay-states, stay-marks, stay-words, stay-closes, closed-same}
 use Rattle.model.proofs.Meaning.Facts.{fact-holds, fact-output, state-of-below}
 
 -- one equivalence after another
@@ -115,31 +115,39 @@ module _ (C : Contract) (known : Established C) where
 
   -- "word 0 has a bit for each input state the tree reaches"
   pub kind-states : (t : Tree) (q : ℕ) → q < C .input .states → T (stateIn C (kindOf C t) q) ↔ Reaches (C .input) t q
-  unfolding kindOf emptyKind nextKind
-  kind-states empty q h = chain (test-iff (state-in-words C _ _ _ few-states q h)) (reached-empty (C .input) q)
+  unfolding kindOf emptyKind nextKind leafKind symbolKind
+  kind-states empty q h = chain (test-iff (stay-states C _ q ∙ state-in-words C _ _ _ few-states q h)) (reached-empty (C .input) q)
   kind-states (node s l r) q h =
-      chain (test-iff (state-in-words C _ _ _ few-states q h))
+      chain (test-iff (stay-states C _ q ∙ state-in-words C _ _ _ few-states q h))
       (reached-node (C .input) s l r (stateIn C (kindOf C l)) (stateIn C (kindOf C r)) (λ i hi. kind-states l _ (known .inputRow i hi .left))
       (λ i hi. kind-states r _ (known .inputRow i hi .right))
       q)
 
   -- "bit 32 set if the tree has one root, bit 33 if it is empty"
   pub kind-marks : (t : Tree) → Marked t (marksIn (kindOf C t))
-  unfolding kindOf emptyKind nextKind
-  kind-marks empty = subst (Marked empty) (sym (marks-in-words C _ _ _ few-states)) marked-empty
-  kind-marks (node s l r) = subst (Marked (node s l r)) (sym (marks-in-words C _ _ _ few-states)) (marked-over s l r _ (kind-marks r))
+  unfolding kindOf emptyKind nextKind leafKind symbolKind
+  kind-marks empty = subst (Marked empty) (sym (stay-marks C _ ∙ marks-in-words C _ _ _ few-states)) marked-empty
+  kind-marks (node s l r) = subst (Marked (node s l r)) (sym (stay-marks C _ ∙ marks-in-words C _ _ _ few-states)) (marked-over s l r _ (kind-marks r))
 
   -- every state reached is an input state, so that word 0 has room for it
   pub reached-is-state : (t : Tree) (q : ℕ) → Reaches (C .input) t q → q < C .input .states
   reached-is-state empty q (i, h, state, symbol) = rw (← state) (known .inputRow i h .state)
   reached-is-state (node s l r) q (i, h, state, symbol, onLeft, onRight) = rw (← state) (known .inputRow i h .state)
 
+  -- the facts in a closed kind are the closed facts
+  stayed-facts : (marks : RootMarks) (reaches : ℕ → Bool) (facts facts′ : FactSet) → SameFactsOf C facts facts′
+      → SameFactsOf C (factsIn C (stayKind C (kindWords C marks reaches facts))) (closedFacts (C .transformation) (C .output) facts′)
+  stayed-facts marks reaches facts facts′ s =
+      rw (stay-closes C known marks reaches facts)
+      (same-facts-chain (C .output .states) (C .transformation .counts) (facts-in-words C marks reaches (closedFacts (C .transformation) (C .output) facts) (known .facts))
+      (closed-same (C .transformation) (C .output) (right-side-well-formed C known) s))
+
   -- the facts in a kind are those of the tree
   kind-same-facts : (t : Tree) → SameFactsOf C (factsIn C (kindOf C t)) (fact (C .transformation) (C .output) t)
-  unfolding kindOf emptyKind nextKind fact
-  kind-same-facts empty = facts-in-words C _ _ _ (known .facts)
+  unfolding kindOf emptyKind nextKind leafKind symbolKind fact
+  kind-same-facts empty = stayed-facts _ _ _ _ (record { at = λ p q qs is. refl })
   kind-same-facts (node s l r) =
-      same-facts-chain (C .output .states) (C .transformation .counts) (facts-in-words C _ _ _ (known .facts))
+      stayed-facts _ _ _ _
       (facts-at-same (C .transformation) (C .output) _ _
       (same-facts-sides (C .output .states) (C .transformation .counts) (kind-same-facts l) (kind-same-facts r))
       (right-side-well-formed C known)
@@ -151,9 +159,9 @@ module _ (C : Contract) (known : Established C) where
   kind-facts t p q qs is = kind-same-facts t .at p q qs is
 
   -- .. set exactly if the fact holds of the tree
-  pub kind-facts-hold : (t : Tree) (p q : ℕ) (qs : List ℕ) → FactOf C p q qs
+  pub kind-facts-hold : (t : Tree) → TreeOf C t → (p q : ℕ) (qs : List ℕ) → FactOf C p q qs
       → T (factsIn C (kindOf C t) p q qs) ↔ FactHolds (C .transformation) (C .output) t p q qs
-  kind-facts-hold t p q qs is = chain (test-iff (kind-facts t p q qs is)) (fact-holds C known t p q qs (is .parameters))
+  kind-facts-hold t over p q qs is = chain (test-iff (kind-facts t p q qs is)) (fact-holds C known t over p q qs is)
 
   -- a kind is the words of some marks, states and facts, so that no bit stands for anything else
   record Made (t : Tree) : Type 0 where
@@ -163,9 +171,9 @@ module _ (C : Contract) (known : Established C) where
     words : kindOf C t ≡ kindWords C marks reaches facts
 
   kind-made : (t : Tree) → Made t
-  unfolding kindOf emptyKind nextKind
-  kind-made empty = record { marks = _; reaches = _; facts = _; words = refl }
-  kind-made (node s l r) = record { marks = _; reaches = _; facts = _; words = refl }
+  unfolding kindOf emptyKind nextKind leafKind symbolKind
+  kind-made empty = record { marks = _; reaches = _; facts = _; words = stay-words C _ _ _ }
+  kind-made (node s l r) = record { marks = _; reaches = _; facts = _; words = stay-words C _ _ _ }
 
   pub kind-no-other-state : (t : Tree) (q : ℕ) → C .input .states ≤ q → (q ≡ rootBit → ⊥) → (q ≡ emptyBit → ⊥) → stateIn C (kindOf C t) q ≡ false
   kind-no-other-state t q h not-root not-empty =
@@ -184,12 +192,12 @@ module _ (C : Contract) (known : Established C) where
   kind-words t j = let made : Made t = kind-made t in rw (made .words) (words-below C (made .marks) (made .reaches) (made .facts) few-states j)
 
   -- so it is the one list of words whose bits are the states that the tree reaches, the marks of its roots and the facts that hold of it
-  pub kind-determined : (t : Tree) (marks : RootMarks) (reaches : ℕ → Bool) (facts : FactSet)
+  pub kind-determined : (t : Tree) → TreeOf C t → (marks : RootMarks) (reaches : ℕ → Bool) (facts : FactSet)
       → Marked t marks
       → ((q : ℕ) → q < C .input .states → T (reaches q) ↔ Reaches (C .input) t q)
       → ((p q : ℕ) (qs : List ℕ) → FactOf C p q qs → T (facts p q qs) ↔ FactHolds (C .transformation) (C .output) t p q qs)
       → kindOf C t ≡ kindWords C marks reaches facts
-  kind-determined t marks reaches facts marked states hold =
+  kind-determined t over marks reaches facts marked states hold =
       let made : Made t = kind-made t in
       let own : marksIn (kindOf C t) ≡ made .marks =
       ap marksIn (made .words) ∙ marks-in-words C (made .marks) (made .reaches) (made .facts) few-states in
@@ -204,28 +212,29 @@ module _ (C : Contract) (known : Established C) where
         at = λ p q qs is.
             sym (facts-in-words C (made .marks) (made .reaches) (made .facts) (known .facts) .at p q qs is)
             ∙ ap (λ (k : List ℕ). factsIn C k p q qs) (sym (made .words))
-            ∙ tests-equal (kind-facts-hold t p q qs is) (hold p q qs is);
+            ∙ tests-equal (kind-facts-hold t over p q qs is) (hold p q qs is);
       })
 
   -- trees are of one kind exactly if they are alike
-  pub same-kind-exactly : (t t′ : Tree) → (kindOf C t ≡ kindOf C t′) ↔ Alike C t t′
-  same-kind-exactly t t′ = (
+  pub same-kind-exactly : (t t′ : Tree) → TreeOf C t → TreeOf C t′ → (kindOf C t ≡ kindOf C t′) ↔ Alike C t t′
+  same-kind-exactly t t′ over over′ = (
     λ e.
         record {
           oneRoot = chain (turn (kind-marks t .oneRoot)) (chain (test-iff (ap (λ (k : List ℕ). marksIn k .oneRoot) e)) (kind-marks t′ .oneRoot));
           isEmpty = chain (turn (kind-marks t .isEmpty)) (chain (test-iff (ap (λ (k : List ℕ). marksIn k .isEmpty) e)) (kind-marks t′ .isEmpty));
           states = λ q h. chain (turn (kind-states t q h)) (chain (test-iff (ap (λ (k : List ℕ). stateIn C k q) e)) (kind-states t′ q h));
           facts = λ p q qs is.
-              chain (turn (kind-facts-hold t p q qs is)) (chain (test-iff (ap (λ (k : List ℕ). factsIn C k p q qs) e)) (kind-facts-hold t′ p q qs is));
+              chain (turn (kind-facts-hold t over p q qs is))
+              (chain (test-iff (ap (λ (k : List ℕ). factsIn C k p q qs) e)) (kind-facts-hold t′ over′ p q qs is));
         },
     λ same.
-        let own : (u : Tree) → kindOf C u ≡ kindWords C (marksIn (kindOf C u)) (stateIn C (kindOf C u)) (factsIn C (kindOf C u)) =
-        λ u. kind-determined u _ _ _ (kind-marks u) (kind-states u) (kind-facts-hold u) in
-        kind-determined t (marksIn (kindOf C t′)) (stateIn C (kindOf C t′)) (factsIn C (kindOf C t′))
+        let own : kindOf C t′ ≡ kindWords C (marksIn (kindOf C t′)) (stateIn C (kindOf C t′)) (factsIn C (kindOf C t′)) =
+        kind-determined t′ over′ _ _ _ (kind-marks t′) (kind-states t′) (kind-facts-hold t′ over′) in
+        kind-determined t over (marksIn (kindOf C t′)) (stateIn C (kindOf C t′)) (factsIn C (kindOf C t′))
         (record { oneRoot = chain (kind-marks t′ .oneRoot) (turn (same .oneRoot)); isEmpty = chain (kind-marks t′ .isEmpty) (turn (same .isEmpty)) })
         (λ q h. chain (kind-states t′ q h) (turn (same .states q h)))
-        (λ p q qs is. chain (kind-facts-hold t′ p q qs is) (turn (same .facts p q qs is)))
-        ∙ sym (own t′),
+        (λ p q qs is. chain (kind-facts-hold t′ over′ p q qs is) (turn (same .facts p q qs is)))
+        ∙ sym own,
   )
 
   -- "A contract takes a tree that reaches an accepted input state."; it "takes no other" than one of one root
@@ -256,12 +265,12 @@ module _ (C : Contract) (known : Established C) where
   not-allowed n h k = omega arith
 
   -- "some fact of procedure 0 with a state not accepted"
-  pub wrong-output-exactly : (t : Tree) → T (hasWrongOutput C (kindOf C t)) ↔ WrongOutput C t
+  pub wrong-output-exactly : (t : Tree) → TreeOf C t → T (hasWrongOutput C (kindOf C t)) ↔ WrongOutput C t
   unfolding hasWrongOutput
-  wrong-output-exactly t = (
+  wrong-output-exactly t over = (
     λ x.
         let (q, h, k) = some-elim _ _ x in
-        let (u, made, e) = fact-output C known t 0 q [] .0 (subst T (kind-facts t 0 q [] (start-fact q h)) (and-right _ _ k)) in
+        let (u, made, e) = fact-output C known t over 0 q [] (known .procedures .least≤) (sym (known .start)) .0 (subst T (kind-facts t 0 q [] (start-fact q h)) (and-right _ _ k)) in
         let zero-mark : markAt (C .output .marks) (stateOf (C .output) u) ≡ 0 = rw e (same-eq _ _ (and-left _ _ k)) in
         record { output = u; isOutput = made; notAllowed = λ one. omega arith },
     λ y.
@@ -270,20 +279,20 @@ module _ (C : Contract) (known : Established C) where
         let h : q < C .output .states = state-of-below C known u in
         some-intro _ _ q h
         (and-both _ _ (eq-same _ _ (not-allowed _ (known .outputMark q) (y .notAllowed)))
-        (subst T (sym (kind-facts t 0 q [] (start-fact q h))) (fact-output C known t 0 q [] .1 (u, y .isOutput, refl)))),
+        (subst T (sym (kind-facts t 0 q [] (start-fact q h))) (fact-output C known t over 0 q [] (known .procedures .least≤) (sym (known .start)) .1 (u, y .isOutput, refl)))),
   )
 
   -- a kind breaks the contract exactly if each tree of that kind does: "A tree breaks it if it is taken and procedure 0 has
   -- an output on it that is not allowed."
-  pub breaks-exactly : (t : Tree) → T (breaks C (kindOf C t)) ↔ Breaks C t
+  pub breaks-exactly : (t : Tree) → TreeOf C t → T (breaks C (kindOf C t)) ↔ Breaks C t
   unfolding breaks
-  breaks-exactly t = (
+  breaks-exactly t over = (
     λ x.
-        let w : WrongOutput C t = wrong-output-exactly t .0 (and-right _ _ x) in
+        let w : WrongOutput C t = wrong-output-exactly t over .0 (and-right _ _ x) in
         record { taken = takes-exactly t .0 (and-left _ _ x); output = w .output; isOutput = w .isOutput; notAllowed = w .notAllowed },
     λ y.
         let w : WrongOutput C t = record { output = y .output; isOutput = y .isOutput; notAllowed = y .notAllowed } in
-        and-both _ _ (takes-exactly t .1 (y .taken)) (wrong-output-exactly t .1 w),
+        and-both _ _ (takes-exactly t .1 (y .taken)) (wrong-output-exactly t over .1 w),
   )
 
   -- of a tree that is taken, not to break the contract is to have allowed outputs only
@@ -300,9 +309,9 @@ module _ (C : Contract) (known : Established C) where
       allowed (suc (suc n)) h k = absurd (omega arith)
 
   -- "the result is 0, ..; 1, ..; 2, .."
-  pub judgement-exactly : (t : Tree) → Judges C t (judgement C (kindOf C t))
+  pub judgement-exactly : (t : Tree) → TreeOf C t → Judges C t (judgement C (kindOf C t))
   unfolding judgement
-  judgement-exactly t = by-cases (isTaken C (kindOf C t)) (breaks C (kindOf C t)) (takes-exactly t) (breaks-exactly t)
+  judgement-exactly t over = by-cases (isTaken C (kindOf C t)) (breaks C (kindOf C t)) (takes-exactly t) (breaks-exactly t over)
     where
       by-cases : (a b : Bool) → T a ↔ Takes C t → T b ↔ Breaks C t → Judges C t (choose a (choose b 2 1) 0)
       by-cases true true f g =

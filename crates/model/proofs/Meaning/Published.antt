@@ -9,11 +9,11 @@ use native.Mathlib.Omega.{arith}
 use lib.ListN.{length, getD, length-map, List·getD-map}
 use lib.Seq.{ext-getD}
 use Rattle.model.specs.Trees.{Tree, empty, node}
-use Rattle.model.specs.Tables.{Contract, Transformation, ruleAt, countOf}
-use Rattle.model.specs.Expressions.{Child, left, right, Expression, parameter, nothing, symbol, call, Arguments, none, argument, greatestParameter, greatestOfAll}
-use Rattle.model.specs.Outputs.{Algebra, ChildOf, left-of, right-of, Gives, by-rule, Makes, of-parameter, of-nothing, of-symbol, of-call, MakesAll, of-none, of-argument, trees, Output}
+use Rattle.model.specs.Tables.{Contract, Transformation, ruleAt, ruleCount, countOf}
+use Rattle.model.specs.Expressions.{Child, left, right, here, Expression, parameter, nothing, symbol, call, Arguments, none, argument, greatestParameter, greatestOfAll}
+use Rattle.model.specs.Outputs.{Algebra, ChildOf, left-of, right-of, itself, RuleFor, of-root, of-any, Gives, by-rule, Makes, of-parameter, of-nothing, of-symbol, of-call, MakesAll, of-none, of-argument, trees, Output}
 use Rattle.model.specs.Claims.{Admitted}
-use Rattle.model.specs.Published.{ParameterTree, leaf, branch, variable, VariablesBelow, closed, substituted, Meaning, OnChild, Value, Values, Satisfies, Published, AsPublished}
+use Rattle.model.specs.Published.{ParameterTree, leaf, branch, variable, VariablesBelow, closed, substituted, Meaning, OnChild, Value, Values, Has, Satisfies, Published, AsPublished}
 use Rattle.model.proofs.Laws.Admitted.{established}
 use Rattle.model.proofs.Laws.Established.{Established}
 use Rattle.model.proofs.Laws.Facts.{argumentCount, WellFormed, AllWellFormed, right-side-well-formed}
@@ -119,12 +119,17 @@ module _ (T : Transformation) (meaning : Meaning) (satisfies : Satisfies T meani
   on-child : {q : ℕ} {c : Child} {s s′ : Tree} {v : ParameterTree} → ChildOf c s s′ → meaning q s′ v → OnChild meaning q c s v
   on-child left-of x = x
   on-child right-of x = x
+  on-child itself x = x
+
+  has : (r : ℕ) → r < ruleCount (T .rules) → (s : Tree) → RuleFor T s (ruleAt (T .rules) r .symbol) → Has T meaning r s
+  has r l s (of-root e) = satisfies .moves r l s e
+  has r l s (of-any e) = satisfies .stays r l e s
 
   mutual
     given-from : {q : ℕ} {s : Tree} {ws : List ParameterTree} {u : ParameterTree} → Gives T parameterTrees q s ws u → From (meaning q s) ws u
     given-from {s = s} (by-rule r l procedure root made) =
         let (v, value, below, e) = made-from made in
-        (v, subst (λ (p : ℕ). meaning p s v) procedure (satisfies r l s root v value), below, e)
+        (v, subst (λ (p : ℕ). meaning p s v) procedure (has r l s root v value), below, e)
 
     made-from : {e : Expression} {s : Tree} {ws : List ParameterTree} {u : ParameterTree} → Makes T parameterTrees e s ws u → From (Value meaning e s) ws u
     made-from {ws = ws} (of-parameter {i = i} l e) = (variable i, refl, l, any-default ws i (variable i) leaf l ∙ sym e)
@@ -166,8 +171,10 @@ module _ (C : Contract) (known : Established C) where
   ownMeaning q s v = Gives T parameterTrees q s (own (countOf counts q)) v
 
   child-given : (q : ℕ) (c : Child) (s : Tree) (v : ParameterTree) → OnChild ownMeaning q c s v → (s′ : Tree) × ChildOf c s s′ × ownMeaning q s′ v
-  child-given q c empty v x = absurd x
+  child-given q here s v x = (s, itself, x)
+  child-given q left empty v x = absurd x
   child-given q left (node a s₁ s₂) v x = (s₁, left-of, x)
+  child-given q right empty v x = absurd x
   child-given q right (node a s₁ s₂) v x = (s₂, right-of, x)
 
   -- with the trees us for the variables
@@ -205,10 +212,13 @@ module _ (C : Contract) (known : Established C) where
       values-made (argument t ts) us well h (x, xs, value, values, e) =
           of-argument (value-made t x (well .0) (omega arith) value) (values-made ts xs (well .1) (omega arith) values) e
 
-  own-satisfies : Satisfies T ownMeaning
-  own-satisfies r l s root v value =
-      by-rule r l refl root
+  own-has : (r : ℕ) → r < ruleCount (T .rules) → (s : Tree) → RuleFor T s (ruleAt (T .rules) r .symbol) → Has T ownMeaning r s
+  own-has r l s for v value =
+      by-rule r l refl for
       (value-made (countOf counts (ruleAt (T .rules) r .procedure)) s _ v (right-side-well-formed C known r l) (known .rule r l .parameters) value)
+
+  own-satisfies : Satisfies T ownMeaning
+  own-satisfies = record { stays = λ r l e s. own-has r l s (of-any e); moves = λ r l s e. own-has r l s (of-root e) }
 
   -- every meaning that satisfies the equations has what they have
   own-least : (other : Meaning) → Satisfies T other → (q : ℕ) (s : Tree) (v : ParameterTree) → ownMeaning q s v → other q s v

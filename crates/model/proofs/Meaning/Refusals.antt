@@ -84,7 +84,7 @@ check-no-refusal C L number place e = go (check-ends C L)
     go (stops l n f) = stopped-not-refusal (ap (λ (c : Checked). c .answer) f) e
 
 -- a run is refused by 13 to 15
-run-refuses-late : {procedures free number place : ℕ} → RunRefusal procedures free number place → NotOfRun number → ⊥
+run-refuses-late : {procedures free most number place : ℕ} → RunRefusal procedures free most number place → NotOfRun number → ⊥
 run-refuses-late (no-rule e l) early = early (omega arith) (omega arith)
 run-refuses-late (no-row e l) early = early (omega arith) (omega arith)
 run-refuses-late (too-many-calls e l) early = early (omega arith) (omega arith)

@@ -18,19 +18,18 @@ use Rattle.foundation.specs.Search.{first}
 use Rattle.foundation.specs.Lists.{zeroFilled}
 use Rattle.model.specs.Trees.{Tree, empty, node, rootSymbol, preorder}
 use Rattle.model.specs.Tables.{Contract, Transformation, nodeAt, nodeCount, ruleAt, ruleCount, countOf}
-use Rattle.model.specs.Expressions.{Child, left, right, Expression, parameter, nothing, symbol, call, Arguments, none, argument, argumentsOf, expression, greatestParameter, greatestOfAll}
-use Rattle.model.specs.Outputs.{ChildOf, left-of, right-of, rightSide, Gives, by-rule, Makes, of-parameter, of-nothing, of-symbol, of-call, MakesAll, of-none, of-argument, trees, Output}
+use Rattle.model.specs.Expressions.{Child, left, right, here, Expression, parameter, nothing, symbol, call, Arguments, none, argument, argumentsOf, expression, greatestParameter, greatestOfAll}
+use Rattle.model.specs.Outputs.{ChildOf, left-of, right-of, itself, RuleFor, of-root, of-any, rightSide, Gives, by-rule, Makes, of-parameter, of-nothing, of-symbol, of-call, MakesAll, of-none, of-argument, trees, Output}
 use Rattle.model.specs.Answers as answers
 use Rattle.model.specs.Answers.{Verdict, fine, refuseIf, _then_, ran, refusal, given}
 use Rattle.model.specs.Documents.{numbersTaken, leadingTree}
 use Rattle.model.specs.Admission.{admission}
 use Rattle.model.specs.Rows.{Row, rowAt, rowCount, treeAt}
-use Rattle.model.specs.Facts.{onSide}
-use Rattle.model.specs.Running.{Work, Step, made, refused, _after_, mostCalls, addRow, countCall, seekRule, Runs, noRuns, evaluate, evaluateAll, runAt, runOn, run, Ran, closing, rowsWrong, runningVerdict, running}
+use Rattle.model.specs.Running.{Work, Step, made, refused, _after_, firstRule, mostCalls, addRow, countCall, seekRule, Runs, onChild, evaluate, evaluateAll, runAt, runOn, run, Ran, closing, rowsWrong, runningVerdict, running}
 use Rattle.model.specs.Refusals.{LeadingDocument}
 use Rattle.model.specs.Meaning.{RunRefusal, no-rule, no-row, too-many-calls, RanOutput, RunRefused, IsDocument, RunAlone}
 use Rattle.model.specs.Claims.{Admitted}
-use Rattle.model.proofs.Laws.Rules.{firstRule, first-fits}
+use Rattle.model.proofs.Laws.Rules.{first-fits}
 use Rattle.model.proofs.Laws.Rows.{tree-empty, tree-node, tree-append}
 use Rattle.model.proofs.Laws.Answers.{then-fine, given-fine, given-refused}
 use Rattle.model.proofs.Laws.Admitted.{established}
@@ -103,11 +102,11 @@ module _ {C : Contract} (E : Established C) where
 
 -- The work as it goes
 
-module _ (procedures free : ℕ) where
+module _ (procedures free most : ℕ) where
   -- what a step comes to: something made with that property, or a known refusal
   abbrev pub Ends : {A : Type 0} → (A → Work → Type 0) → Step A → Type 0
   Ends P (made a w) = P a w
-  Ends P (refused number place) = RunRefusal procedures free number place
+  Ends P (refused number place) = RunRefusal procedures free most number place
 
   ends-after : {A B : Type 0} (P : A → Work → Type 0) (Q : B → Work → Type 0) (s : Step A) (k : A → Work → Step B) → Ends P s
       → ((a : A) (w : Work) → P a w → Ends Q (k a w))
@@ -124,7 +123,7 @@ module _ (procedures free : ℕ) where
   pub record Tallied (w : Work) : Type 0 where
     pub rows : 3 * w .tally .used ≡ length (w .rows)
     pub used : w .tally .used ≤ free
-    pub calls : w .tally .calls ≤ mostCalls
+    pub calls : w .tally .calls ≤ most
 
   -- rows that go on behind those of w
   pub record Extends (w : Work) (rows : List ℕ) : Type 0 where
@@ -297,81 +296,120 @@ module _ (procedures free : ℕ) where
           }
 
   -- a call on a tree
-  module _ {C : Contract} (E : Established C) (named : length (C .transformation .counts) ≤ procedures) where
+  module _ {C : Contract} (E : Established C) (named : length (C .transformation .counts) ≤ procedures) (limit : mostCalls (C .transformation) ≡ most) where
     abbrev T : Transformation
     T = C .transformation
+
+    -- the right side of a rule that is for the tree, evaluated after the call is counted
+    side-ends : (t : Tree) (runs : Child → Runs)
+        → ((c : Child) → Right (T .counts) (runs c) (λ p us u. (t′ : Tree) × ChildOf c t t′ × Gives T trees p t′ us u))
+        → (p : ℕ) (ws : List ℕ) (w : Work) → Fits (T .counts) p ws → Tallied w → Below (w .tally .used) ws → w .tally .calls < most
+        → (r : ℕ) → r < ruleCount (T .rules) → ruleAt (T .rules) r .procedure ≡ p → RuleFor T t (ruleAt (T .rules) r .symbol)
+        → Ends (Did (λ us u. Output T p t us u) ws w)
+        (evaluate T free runs (rightSide T r) ws (record { tally = record { used = w .tally .used; calls = suc (w .tally .calls) }; rows = w .rows }))
+    side-ends t runs sides p ws w n tallied below few r there ep for =
+        let counted : Work = record { tally = record { used = w .tally .used; calls = suc (w .tally .calls) }; rows = w .rows } in
+        let good = E .rule r there in
+        let known : greatestParameter (rightSide T r) ≤ length ws = subst (λ (m : ℕ). greatestParameter (rightSide T r) ≤ m) (ap (countOf (T .counts)) ep ∙ sym (n .1)) (good .parameters) in
+        let sound : Sound (T .counts) (length ws) (rightSide T r) = node-sound E (suc (ruleAt (T .rules) r .node)) (ruleAt (T .rules) r .node) (length ws) (omega arith) (good .node) known in
+        ends-map (Did (Makes T trees (rightSide T r) t) ws counted) (Did (λ us u. Output T p t us u) ws w) (evaluate T free runs (rightSide T r) ws counted)
+        (λ x w₂ d.
+        record {
+          went = record {
+            tallied = d .went .tallied;
+            more = d .went .more;
+            extends = record { new = d .went .extends .new; behind = d .went .extends .behind };
+          };
+          inside = d .inside;
+          output = λ rows y. by-rule r there ep for (d .output rows y);
+        })
+        (evaluate-ends T named t runs sides (rightSide T r) ws counted sound (record { rows = tallied .rows; used = tallied .used; calls = few }) below)
 
     rule-ends : (t : Tree) (runs : Child → Runs)
         → ((c : Child) → Right (T .counts) (runs c) (λ p us u. (t′ : Tree) × ChildOf c t t′ × Gives T trees p t′ us u))
         → Right (T .counts) (runAt T free runs (rootSymbol t)) (λ p us u. Output T p t us u)
     unfolding runAt countCall seekRule _after_
-    rule-ends t runs sides = record { right = λ p ws w n tallied below. go p ws w n tallied below (ltb (w .tally .calls) mostCalls) refl }
+    rule-ends t runs sides = record { right = λ p ws w n tallied below. go p ws w n tallied below (ltb (w .tally .calls) (mostCalls T)) refl }
       where
-        found : (p : ℕ) → ℕ
-        found p = firstRule (T .rules) p (rootSymbol t)
-
         go : (p : ℕ) (ws : List ℕ) (w : Work) → Fits (T .counts) p ws → Tallied w → Below (w .tally .used) ws
-            → (b : Bool) → ltb (w .tally .calls) mostCalls ≡ b
+            → (b : Bool) → ltb (w .tally .calls) (mostCalls T) ≡ b
             → Ends (Did (λ us u. Output T p t us u) ws w) (runAt T free runs (rootSymbol t) p ws w)
-        go p ws w n tallied below false e = rw e (too-many-calls refl refl)
-        go p ws w n tallied below true e = rw e (sought (ltb (found p) (ruleCount (T .rules))) refl)
+        go p ws w n tallied below false e = rw e (too-many-calls refl limit)
+        go p ws w n tallied below true e = rw e (by-root (ltb own (ruleCount (T .rules))) refl)
           where
+            own : ℕ
+            own = firstRule (T .rules) p (rootSymbol t)
+
+            stay : ℕ
+            stay = firstRule (T .rules) p (T .symbols)
+
             counted : Work
             counted = record { tally = record { used = w .tally .used; calls = suc (w .tally .calls) }; rows = w .rows }
 
-            sought : (b : Bool) → ltb (found p) (ruleCount (T .rules)) ≡ b
-                → Ends (Did (λ us u. Output T p t us u) ws w) (choose b (made (found p) counted) (refused 13 p) after λ r w₂. evaluate T free runs (rightSide T r) ws w₂)
-            sought false e₂ = no-rule refl (n .0)
-            sought true e₂ =
-                let r : ℕ = found p in
-                let there : r < ruleCount (T .rules) = ltb-true (found p) (ruleCount (T .rules)) e₂ in
-                let (ep, es) = first-fits (T .rules) p (rootSymbol t) there in
-                let good = E .rule r there in
-                let known : greatestParameter (rightSide T r) ≤ length ws = subst (λ (m : ℕ). greatestParameter (rightSide T r) ≤ m) (ap (countOf (T .counts)) ep ∙ sym (n .1)) (good .parameters) in
-                let sound : Sound (T .counts) (length ws) (rightSide T r) = node-sound E (suc (ruleAt (T .rules) r .node)) (ruleAt (T .rules) r .node) (length ws) (omega arith) (good .node) known in
-                ends-map (Did (Makes T trees (rightSide T r) t) ws counted) (Did (λ us u. Output T p t us u) ws w) (evaluate T free runs (rightSide T r) ws counted)
-                (λ x w₂ d.
-                record {
-                  went = record {
-                    tallied = d .went .tallied;
-                    more = d .went .more;
-                    extends = record { new = d .went .extends .new; behind = d .went .extends .behind };
-                  };
-                  inside = d .inside;
-                  output = λ rows y. by-rule r there ep es (d .output rows y);
-                })
-                (evaluate-ends T named t runs sides (rightSide T r) ws counted sound
-                (record { rows = tallied .rows; used = tallied .used; calls = ltb-true (w .tally .calls) mostCalls e }) below)
+            few : w .tally .calls < most
+            few = omega (arith, ltb-true (w .tally .calls) (mostCalls T) e, limit)
 
-    tree-ends : (t : Tree) → Right (T .counts) (runOn T free t) (λ p us u. Output T p t us u)
+            by-stay : (b : Bool) → ltb stay (ruleCount (T .rules)) ≡ b
+                → Ends (Did (λ us u. Output T p t us u) ws w) (choose b (made stay counted) (refused 13 p) after λ r w₂. evaluate T free runs (rightSide T r) ws w₂)
+            by-stay false e₂ = no-rule refl (n .0)
+            by-stay true e₂ =
+                let there : stay < ruleCount (T .rules) = ltb-true stay (ruleCount (T .rules)) e₂ in
+                let (ep, es) = first-fits (T .rules) p (T .symbols) there in
+                side-ends t runs sides p ws w n tallied below few stay there ep (of-any es)
+
+            by-root : (b : Bool) → ltb own (ruleCount (T .rules)) ≡ b
+                → Ends (Did (λ us u. Output T p t us u) ws w)
+                (choose b (made own counted) (choose (ltb stay (ruleCount (T .rules))) (made stay counted) (refused 13 p)) after λ r w₂. evaluate T free runs (rightSide T r) ws w₂)
+            by-root false e₂ = by-stay (ltb stay (ruleCount (T .rules))) refl
+            by-root true e₂ =
+                let there : own < ruleCount (T .rules) = ltb-true own (ruleCount (T .rules)) e₂ in
+                let (ep, es) = first-fits (T .rules) p (rootSymbol t) there in
+                side-ends t runs sides p ws w n tallied below few own there ep (of-root es)
+
+    -- a call on the tree that a call goes to
+    moved : (runs : Tree → Runs) → ((t : Tree) → Right (T .counts) (runs t) (λ p us u. Output T p t us u))
+        → {c : Child} {t t′ : Tree} → ChildOf c t t′
+        → Right (T .counts) (runs t′) (λ p us u. (t″ : Tree) × ChildOf c t t″ × Gives T trees p t″ us u)
+    moved runs ends {t′ = t′} child =
+        record {
+          right = λ p ws w n tallied below.
+              ends-map _ _ (runs t′ p ws w) (λ x w₂ d. record { went = d .went; inside = d .inside; output = λ rows y. (t′, child, d .output rows y) })
+              (ends t′ .right p ws w n tallied below);
+        }
+
+    child-ends : (runs : Tree → Runs) → ((t : Tree) → Right (T .counts) (runs t) (λ p us u. Output T p t us u))
+        → (t : Tree) (c : Child) → Right (T .counts) (onChild runs t c) (λ p us u. (t′ : Tree) × ChildOf c t t′ × Gives T trees p t′ us u)
+    child-ends runs ends empty left = record { right = λ p ws w n tallied below. no-rule refl (n .0) }
+    child-ends runs ends empty right = record { right = λ p ws w n tallied below. no-rule refl (n .0) }
+    child-ends runs ends empty here = moved runs ends itself
+    child-ends runs ends (node s l r) left = moved runs ends left-of
+    child-ends runs ends (node s l r) right = moved runs ends right-of
+    child-ends runs ends (node s l r) here = moved runs ends itself
+
+    tree-ends : (n : ℕ) (t : Tree) → Right (T .counts) (runOn T free n t) (λ p us u. Output T p t us u)
     unfolding runOn
-    tree-ends empty = rule-ends empty (λ c. noRuns) (λ c. record { right = λ p ws w n tallied below. no-rule refl (n .0) })
-    tree-ends (node s l r) = rule-ends (node s l r) (onSide (runOn T free l) (runOn T free r)) (two (tree-ends l) (tree-ends r))
-      where
-        two : Right (T .counts) (runOn T free l) (λ p us u. Output T p l us u) → Right (T .counts) (runOn T free r) (λ p us u. Output T p r us u)
-            → (c : Child)
-            → Right (T .counts) (onSide (runOn T free l) (runOn T free r) c) (λ p us u. (t′ : Tree) × ChildOf c (node s l r) t′ × Gives T trees p t′ us u)
-        two a b left =
-            record { right = λ p ws w n tallied below. ends-map _ _ (runOn T free l p ws w) (λ x w₂ d. record { went = d .went; inside = d .inside; output = λ rows y. (l, left-of, d .output rows y) }) (a .right p ws w n tallied below) }
-        two a b right =
-            record { right = λ p ws w n tallied below. ends-map _ _ (runOn T free r p ws w) (λ x w₂ d. record { went = d .went; inside = d .inside; output = λ rows y. (r, right-of, d .output rows y) }) (b .right p ws w n tallied below) }
+    tree-ends zero t = record { right = λ p ws w n tallied below. too-many-calls refl limit }
+    tree-ends (suc n) t = record { right = rule-ends t (onChild (runOn T free n) t) (child-ends (runOn T free n) (tree-ends n) t) .right }
 
 -- "The tree is one of the outputs defined above."
 pub record RunOutput (T : Transformation) (free : ℕ) (t : Tree) (root : ℕ) (w : Work) : Type 0 where
   pub output : Output T 0 t [] (treeAt (w .rows) root)
   pub rows : 3 * w .tally .used ≡ length (w .rows)
   pub used : w .tally .used ≤ free
-  pub calls : w .tally .calls ≤ mostCalls
+  pub calls : w .tally .calls ≤ mostCalls T
   pub inside : root < w .tally .used
 
 module _ (C : Contract) (E : Established C) (free : ℕ) (t : Tree) where
   abbrev procedures : ℕ
   procedures = length (C .transformation .counts)
 
-  ends : Ends procedures free (Did procedures free (λ us u. Output (C .transformation) 0 t us u) [] (record { tally = record { used = 0; calls = 0 }; rows = [] })) (run (C .transformation) free t)
+  abbrev most : ℕ
+  most = mostCalls (C .transformation)
+
+  ends : Ends procedures free most (Did procedures free most (λ us u. Output (C .transformation) 0 t us u) [] (record { tally = record { used = 0; calls = 0 }; rows = [] })) (run (C .transformation) free t)
   unfolding run
   ends =
-      tree-ends procedures free E (omega arith) t .right 0 [] (record { tally = record { used = 0; calls = 0 }; rows = [] }) (E .procedures .least≤, sym (E .start))
+      tree-ends procedures free most E (omega arith) refl most t .right 0 [] (record { tally = record { used = 0; calls = 0 }; rows = [] }) (E .procedures .least≤, sym (E .start))
       (record { rows = refl; used = omega arith; calls = omega arith }) tt
 
   pub run-output : (root : ℕ) (w : Work) → run (C .transformation) free t ≡ made root w → RunOutput (C .transformation) free t root w
@@ -385,7 +423,7 @@ module _ (C : Contract) (E : Established C) (free : ℕ) (t : Tree) where
         inside = d .inside;
       }
 
-  pub run-refusal : (number place : ℕ) → run (C .transformation) free t ≡ refused number place → RunRefusal (length (C .transformation .counts)) free number place
+  pub run-refusal : (number place : ℕ) → run (C .transformation) free t ≡ refused number place → RunRefusal (length (C .transformation .counts)) free (mostCalls (C .transformation)) number place
   run-refusal number place e = rw e at ends
 
 -- The whole operation

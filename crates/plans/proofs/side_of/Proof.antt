@@ -1,11 +1,11 @@
--- `plans::side_of` meets its contract: `entry_place` says where the entry stands behind the counts.
+-- `plans::side_of` meets its contract: `entry_of` says which entry behind the counts it is.
 use mathlib.Core.Path.{_∙_}
 use borrow.Author.Needs.{needs}
 use Rattle.plans.proofs.side_of.Statement.{statement}
 use Rattle.plans.proofs.side_of.Tie as tie
 
-entry-place-requires : tie.Need-entry-place-requires
-entry-place-requires c κs = search needs
+entry-of-requires : tie.Need-entry-of-requires
+entry-of-requires c κs = search needs
 
 add-wide : tie.Need-add-wide
 add-wide c = search needs
@@ -20,9 +20,9 @@ wide-requires : tie.Need-wide-requires
 wide-requires c κs = search needs
 
 returns : tie.Need-returns
-returns c = c .wide .ensures ∙ rw (c .before .before .entry-place .ensures .0)
+returns c = c .wide .ensures ∙ rw (c .before .before .entry-of .ensures .0)
 
 pub side-of-spec : {M : Type 1} → statement M
 side-of-spec =
     tie.close
-    (tie.spec entry-place-requires add-wide mul-wide element-copy-out-wide wide-requires returns)
+    (tie.spec entry-of-requires add-wide mul-wide element-copy-out-wide wide-requires returns)

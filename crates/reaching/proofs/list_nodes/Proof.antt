@@ -2,16 +2,16 @@
 use mathlib.Core.Path.{_≡_, subst}
 use Prim.Native.Nat.{ℕ, _-_, _≤_}
 use native.Mathlib.Omega.{arith}
-use Rattle.kind_words.specs.Sizes.{mostSymbols}
+use Rattle.kind_words.specs.Sizes.{ruleSymbols}
 use Rattle.reaching.specs.Listing.{ListedTo, list-room, listed-none, listed-more, rules-kept}
 use Rattle.reaching.proofs.list_nodes.Statement.{statement}
 use Rattle.reaching.proofs.list_nodes.Tie as tie
 
 abbrev Inv-loop : tie.InvT-loop
-Inv-loop counts nodes rules lists₀ start end₀ s₀ lists end s = (s ≤ mostSymbols) × ListedTo counts nodes rules start s end lists₀ lists
+Inv-loop counts nodes rules lists₀ start end₀ s₀ lists end s = (s ≤ ruleSymbols) × ListedTo counts nodes rules start s end lists₀ lists
 
 abbrev μ-loop : tie.MeasureT-loop
-μ-loop counts nodes rules lists₀ start end₀ s₀ lists end s = mostSymbols - s
+μ-loop counts nodes rules lists₀ start end₀ s₀ lists end s = ruleSymbols - s
 
 loop-holds : tie.Need-loop-holds Inv-loop μ-loop
 loop-holds c = (omega arith, listed-none _ _ _ _ _ (c .before .before .before .before .pre .4))
@@ -56,7 +56,7 @@ returns : tie.Need-returns Inv-loop μ-loop
 returns c =
     let args = c .before .before .before .before .before .before .before .args in
     let loop = c .before .before .loop in
-    let e : loop .s ≡ mostSymbols = omega arith in
+    let e : loop .s ≡ ruleSymbols = omega arith in
     subst (λ (x : ℕ). ListedTo (args .counts .now) (args .nodes .now) (args .rules .now) (args .start) x (loop .end) (args .lists .now) (loop .lists)) e (loop .inv .1)
 
 pub list-nodes-spec : {M : Type 1} → statement M

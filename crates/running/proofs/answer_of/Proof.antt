@@ -18,8 +18,11 @@ enum-known-end-2 c = search needs
 enum-told : tie.Need-enum-told
 enum-told c = search needs
 
-enum-told-2 : tie.Need-enum-told-2
-enum-told-2 c = search needs
+enum-known-end-3 : tie.Need-enum-known-end-3
+enum-known-end-3 c = search needs
+
+cast-t11 : tie.Need-cast-t11
+cast-t11 c = search needs
 
 returns : tie.Need-returns
 returns c = rw (c .before .before .before .end .given .1, c .before .wide .ensures, c .wide2 .ensures)
@@ -31,7 +34,7 @@ returns-3 : tie.Need-returns-3
 returns-3 c = rw (c .enum-told .given .1)
 
 returns-4 : tie.Need-returns-4
-returns-4 c = search needs
+returns-4 c = rw (c .before .end3 .given .1)
 
 pub answer-of-spec : {M : Type 1} → statement M
 answer-of-spec =
@@ -42,7 +45,8 @@ answer-of-spec =
     wide-requires-2
     enum-known-end-2
     enum-told
-    enum-told-2
+    enum-known-end-3
+    cast-t11
     returns
     returns-2
     returns-3

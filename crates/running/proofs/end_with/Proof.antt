@@ -12,8 +12,8 @@ enum-known-outcome-2 c = search needs
 enum-told : tie.Need-enum-told
 enum-told c = search needs
 
-enum-told-2 : tie.Need-enum-told-2
-enum-told-2 c = search needs
+enum-known-outcome-3 : tie.Need-enum-known-outcome-3
+enum-known-outcome-3 c = search needs
 
 returns : tie.Need-returns
 returns c = rw (c .before .outcome .given .1)
@@ -25,7 +25,7 @@ returns-3 : tie.Need-returns-3
 returns-3 c = rw (c .enum-told .given .1)
 
 returns-4 : tie.Need-returns-4
-returns-4 c = rw (c .enum-told2 .given .1)
+returns-4 c = rw (c .before .outcome3 .given .1)
 
 pub end-with-spec : {M : Type 1} → statement M
 end-with-spec =
@@ -34,7 +34,7 @@ end-with-spec =
     enum-known-outcome
     enum-known-outcome-2
     enum-told
-    enum-told-2
+    enum-known-outcome-3
     returns
     returns-2
     returns-3

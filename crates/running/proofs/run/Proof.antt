@@ -3,7 +3,7 @@
 use mathlib.Core.Path.{ap, sym, _∙_}
 use Rattle.model.specs.Tables.{contract}
 use Rattle.answers.specs.Numbers.{admissionAnswer}
-use Rattle.running.proofs.Admitting.{contract-refused, tables-known, symbols-known, contract-run}
+use Rattle.running.proofs.Admitting.{contract-refused, tables-known, contract-run}
 use borrow.Author.Needs.{needs}
 use Rattle.running.proofs.run.Statement.{statement}
 use Rattle.running.proofs.run.Tie as tie
@@ -26,12 +26,9 @@ enum-told c = search needs
 run-admitted-requires : tie.Need-run-admitted-requires
 run-admitted-requires c κs =
     let s = c .before .before .before .before .before .before .before .before .before .before .before .before .before .args in
-    let passed = sym (ap admissionAnswer (c .before .enum-told .given .1)) ∙ c .before .before .before .admit .ensures in (
-      tables-known (contract (s .symbols) (s .input-states) (s .output-states) (s .counts .now) (s .input-rows .now) (s .input-marks .now) (s .output-table .now)
-          (s .output-marks .now) (s .nodes .now) (s .rules .now)) (s .numbers .now) (s .rows .now) passed,
-      symbols-known (contract (s .symbols) (s .input-states) (s .output-states) (s .counts .now) (s .input-rows .now) (s .input-marks .now) (s .output-table .now)
-          (s .output-marks .now) (s .nodes .now) (s .rules .now)) (s .numbers .now) (s .rows .now) passed,
-    )
+    let passed = sym (ap admissionAnswer (c .before .enum-told .given .1)) ∙ c .before .before .before .admit .ensures in
+    tables-known (contract (s .symbols) (s .input-states) (s .output-states) (s .counts .now) (s .input-rows .now) (s .input-marks .now) (s .output-table .now)
+    (s .output-marks .now) (s .nodes .now) (s .rules .now)) (s .numbers .now) (s .rows .now) passed
 
 same-length : tie.Need-same-length
 same-length c = search needs

@@ -11,8 +11,8 @@ cast-node c = search needs
 procedure-wrong-requires : tie.Need-procedure-wrong-requires
 procedure-wrong-requires c κs = search needs
 
-symbol-wrong-requires : tie.Need-symbol-wrong-requires
-symbol-wrong-requires c κs = search needs
+cast-result : tie.Need-cast-result
+cast-result c = search needs
 
 count-of-requires : tie.Need-count-of-requires
 count-of-requires c κs = search needs
@@ -20,20 +20,23 @@ count-of-requires c κs = search needs
 number-at-requires : tie.Need-number-at-requires
 number-at-requires c κs = search needs
 
-test-at-requires : tie.Need-test-at-requires
-test-at-requires c κs = search needs
+number-at-requires-2 : tie.Need-number-at-requires-2
+number-at-requires-2 c κs = search needs
+
+calls-wrong-requires : tie.Need-calls-wrong-requires
+calls-wrong-requires c κs = search needs
 
 returns : tie.Need-returns
 returns c =
-    let given = c .before .before .before .before .before .before .before .before .before .before .before .args in
+    let start = c .before .before .before .before .before .before .before .before .before .before .before in
     rw (
       c .before .before .before .before .before .procedure-wrong .ensures,
-      c .before .before .before .before .symbol-wrong .ensures,
       c .before .before .before .count-of .ensures,
       c .before .before .number-at .ensures,
-      c .test-at .ensures,
+      c .calls-wrong .ensures,
+      c .before .number-at2 .ensures,
     )
-    (rule-by-tables _ _ _ (given .greatest .now) (given .calls .now) (c .before .before .before .before .before .before .before .before .before .before .before .pre .0) (c .before .before .before .before .before .before .before .before .before .before .before .pre .1) (ruleOf (given .rule)))
+    (rule-by-tables _ _ _ (start .args .greatest .now) (start .args .calls .now) (ruleOf (start .args .rule)) (start .pre .0) (start .pre .1))
 
 pub rule-wrong-spec : {M : Type 1} → statement M
 rule-wrong-spec =
@@ -41,8 +44,9 @@ rule-wrong-spec =
     (tie.spec
     cast-node
     procedure-wrong-requires
-    symbol-wrong-requires
+    cast-result
     count-of-requires
     number-at-requires
-    test-at-requires
+    number-at-requires-2
+    calls-wrong-requires
     returns)

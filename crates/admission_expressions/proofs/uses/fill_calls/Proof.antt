@@ -1,5 +1,5 @@
 -- `fill_calls`: every entry passed is right, whatever the table held before; the measure is the nodes left.
--- One more entry is `call-more`.
+-- One more entry is `calls-more`.
 use mathlib.Core.Path.{_≡_, refl}
 use Prim.Native.Nat.{_-_, _≤_}
 use native.Mathlib.Omega.{arith}
@@ -7,7 +7,7 @@ use borrow.Author.Count.{below-none}
 use lib.ListN.{length, length-set}
 use Rattle.model.specs.Tables.{nodeCount}
 use Rattle.admission_expressions.specs.Uses.{CallsKnown}
-use Rattle.admission_expressions.proofs.NodeUses.{call-more}
+use Rattle.admission_expressions.proofs.NodeUses.{calls-more}
 use Rattle.admission_expressions.proofs.uses.fill_calls.Statement.{statement}
 use Rattle.admission_expressions.proofs.uses.fill_calls.Tie as tie
 
@@ -23,8 +23,11 @@ loop-holds c = (omega arith, refl, below-none _)
 node-at-requires : tie.Need-node-at-requires Inv-loop μ-loop
 node-at-requires c κs = omega arith
 
-call-of-requires : tie.Need-call-of-requires Inv-loop μ-loop
-call-of-requires c κs = tt
+calls-of-requires : tie.Need-calls-of-requires Inv-loop μ-loop
+calls-of-requires c κs = tt
+
+mul-calls : tie.Need-mul-calls Inv-loop μ-loop
+mul-calls c = omega arith
 
 slice-write-calls : tie.Need-slice-write-calls Inv-loop μ-loop
 slice-write-calls c = omega arith
@@ -40,7 +43,7 @@ loop-again c =
     let here = c .before .before .before .before .loop in (
       omega arith,
       simp length-set (here .inv .1),
-      call-more _ _ (c .before .before .before .before .before .before .before .before .pre .0) _ (omega arith) (here .calls) (omega arith) (here .inv .2) _ (c .before .node-at .ensures) _ (c .call-of .ensures),
+      calls-more _ _ (c .before .before .before .before .before .before .before .before .pre .0) _ (omega arith) (here .calls) (omega arith) (here .inv .2) _ (c .before .node-at .ensures) _ (c .calls-of .ensures),
     )
 
 same-length : tie.Need-same-length Inv-loop μ-loop
@@ -59,7 +62,8 @@ fill-calls-spec =
     μ-loop
     loop-holds
     node-at-requires
-    call-of-requires
+    calls-of-requires
+    mul-calls
     slice-write-calls
     add-k
     loop-less

@@ -21,17 +21,17 @@ of-document-requires c κs = search needs
 enum-known-answer-3 : tie.Need-enum-known-answer-3
 enum-known-answer-3 c = search needs
 
-cast-t10 : tie.Need-cast-t10
-cast-t10 c = search needs
+cast-t11 : tie.Need-cast-t11
+cast-t11 c = search needs
 
 enum-known-answer-4 : tie.Need-enum-known-answer-4
 enum-known-answer-4 c = search needs
 
-enum-told-2 : tie.Need-enum-told-2
-enum-told-2 c = search needs
-
 enum-known-answer-5 : tie.Need-enum-known-answer-5
 enum-known-answer-5 c = search needs
+
+enum-known-answer-6 : tie.Need-enum-known-answer-6
+enum-known-answer-6 c = search needs
 
 returns : tie.Need-returns
 returns c = rw (c .before .before .answer .given .1) (c .of-contract .ensures)
@@ -49,10 +49,10 @@ returns-5 : tie.Need-returns-5
 returns-5 c = rw (c .before .answer4 .given .1)
 
 returns-6 : tie.Need-returns-6
-returns-6 c = rw (c .enum-told2 .given .1)
+returns-6 c = rw (c .before .answer5 .given .1)
 
 returns-7 : tie.Need-returns-7
-returns-7 c = rw (c .before .answer5 .given .1)
+returns-7 c = rw (c .before .answer6 .given .1)
 
 pub of-running-spec : {M : Type 1} → statement M
 of-running-spec =
@@ -64,10 +64,10 @@ of-running-spec =
     enum-known-answer-2
     of-document-requires
     enum-known-answer-3
-    cast-t10
+    cast-t11
     enum-known-answer-4
-    enum-told-2
     enum-known-answer-5
+    enum-known-answer-6
     returns
     returns-2
     returns-3
