@@ -2,6 +2,8 @@
 //
 // It goes in three stages, each of which relies on those before it: sizes and lengths; types and counts; expressions, rules and
 // the number of facts.
+#![tactic(auto)]
+
 ghost use Rattle.std.specs.Prelude.{◌≡◌, ◌+◌, ◌≤◌, length};
 ghost use Rattle.model.specs.Tables.{contract, node_count};
 ghost use Rattle.model.specs.Admission as model;

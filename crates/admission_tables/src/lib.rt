@@ -2,6 +2,8 @@
 // search for its first bad entry.
 //
 // A search is a loop of one shape: the first place at which a test holds, or the number of places.
+#![tactic(auto)]
+
 pub mod entries;
 pub mod reading;
 pub mod sizes;

@@ -47,7 +47,7 @@ pub fn table_length(symbols: usize, output_states: usize) -> usize
 }
 
 // How long the six tables are.
-#[derive(Drop)]
+#[derive(Clone, Copy)]
 pub struct Lengths {
     pub input_rows: usize,
     pub input_marks: usize,

@@ -1,11 +1,13 @@
 // The answers of the five operations, as enums of meaningful cases. specs/Numbers.antt gives document 01's number and
 // values for each case; promises use it. `numbered` has the answers of all operations as one enum with these numbers.
+#![tactic(auto)]
+
 pub mod numbered;
 
 use tables::Procedure;
 
 // What is wrong with an expression node.
-#[derive(Drop)]
+#[derive(Clone, Copy)]
 pub enum NodeFault {
     // It is no parameter, no output symbol and no call.
     Tag,
@@ -20,7 +22,7 @@ pub enum NodeFault {
 }
 
 // Why a contract is not admitted, with the place.
-#[derive(Drop)]
+#[derive(Clone, Copy)]
 pub enum ContractFault {
     // Symbols, input states, output states or procedures are too few or too many.
     Size(usize),
@@ -41,14 +43,14 @@ pub enum ContractFault {
 }
 
 // What admission says.
-#[derive(Drop)]
+#[derive(Clone, Copy)]
 pub enum AdmissionAnswer {
     Admitted,
     Refused(ContractFault),
 }
 
 // Why numbers begin with no document, with the place.
-#[derive(Drop)]
+#[derive(Clone, Copy)]
 pub enum DocumentFault {
     // How many numbers there are, where the first 1,023 hold neither a fault nor the end of the tree and more follow.
     Length(usize),
@@ -57,7 +59,7 @@ pub enum DocumentFault {
 }
 
 // What a document is for a contract.
-#[derive(Drop)]
+#[derive(Clone, Copy)]
 pub enum Judgement {
     // Not taken: not of the input type, or not of one root.
     Outside,
@@ -68,7 +70,7 @@ pub enum Judgement {
 }
 
 // What judging says.
-#[derive(Drop)]
+#[derive(Clone, Copy)]
 pub enum JudgingAnswer {
     Contract(ContractFault),
     // The kind buffer is not five words.
@@ -79,7 +81,7 @@ pub enum JudgingAnswer {
 }
 
 // What checking says.
-#[derive(Drop)]
+#[derive(Clone, Copy)]
 pub enum CheckingAnswer {
     Contract(ContractFault),
     // The limit, the row buffer or the word buffer has a wrong size.
@@ -93,7 +95,7 @@ pub enum CheckingAnswer {
 }
 
 // What running says.
-#[derive(Drop)]
+#[derive(Clone, Copy)]
 pub enum RunningAnswer {
     Contract(ContractFault),
     // The row buffer's length.
@@ -110,7 +112,7 @@ pub enum RunningAnswer {
 }
 
 // What writing out says.
-#[derive(Drop)]
+#[derive(Clone, Copy)]
 pub enum WritingAnswer {
     // The rows' length.
     Rows,

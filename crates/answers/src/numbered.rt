@@ -8,7 +8,7 @@ use crate::{
 };
 
 // The cases of the model's answer, with their values.
-#[derive(Drop)]
+#[derive(Clone, Copy)]
 pub enum Answer {
     Admitted,
     // The result, and the numbers taken.

@@ -1,5 +1,7 @@
 // Blocks of facts in a kind that is held as six words, the last 0: blocks are read and put at any fact number free of
 // branches. A procedure of fewer parameters than the greatest count has narrower lanes than the nodes' words have.
+#![tactic(auto)]
+
 ghost use Rattle.std.specs.Prelude.{◌≡◌, ◌+◌, ◌*◌, ◌-◌, ◌^◌, ◌<◌, ◌≤◌, replicate};
 ghost use Rattle.model.specs.Admission.{most_facts};
 ghost use Rattle.kind_words.specs.Lanes.{Sized};

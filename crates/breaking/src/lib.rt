@@ -1,5 +1,7 @@
 // What a kind says of its trees: whether the contract takes them, and whether they break it. Two words tell it, which are made
 // once for a contract, and the mark of one root.
+#![tactic(auto)]
+
 ghost use Rattle.std.specs.Prelude.{◌≡◌, ◌+◌, ◌*◌, ◌^◌, ◌<◌, ◌≤◌, length};
 ghost use Rattle.foundation.specs.Words.{word, one_if};
 ghost use Rattle.breaking.specs.Verdicts.{accepting, taking, mistaken, breaking, marked, VerdictsOf};
@@ -7,7 +9,7 @@ ghost use Rattle.breaking.specs.Verdicts.{accepting, taking, mistaken, breaking,
 use root_marks::has_one_root;
 
 // A bit for each input state that is accepted, and one for each output state that is not.
-#[derive(Drop)]
+#[derive(Clone, Copy)]
 pub struct Verdicts {
     pub accepted: u64,
     pub refused: u64,

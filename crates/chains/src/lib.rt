@@ -1,5 +1,7 @@
 // The table of lists: how it is read, and the rules and the input rows of each symbol, put into it once for a contract, in
 // chains: the table names the first of each symbol, and after each one the next of its symbol.
+#![tactic(auto)]
+
 ghost use Rattle.std.specs.Prelude.{◌≡◌, ℕ, ◌+◌, ◌<◌, ◌≤◌, ltb, length, get_or, set};
 ghost use Rattle.model.specs.Tables.{input_row, input_row_count, rule_at, rule_count};
 ghost use Rattle.kind_words.specs.Sizes.{rule_symbols, most_rows, most_rules, first_rules, first_rows, next_rules, next_rows};

@@ -1,4 +1,6 @@
 // Whether a list of kinds holds the kind of every symbol over every two of them.
+#![tactic(auto)]
+
 ghost use Rattle.std.specs.Prelude.{◌≡◌, ◌<◌, ◌≤◌};
 ghost use Rattle.model.specs.Examining.{sent_count, closed_verdict};
 ghost use Rattle.kind_words.specs.Sizes.{most_symbols};
@@ -14,11 +16,11 @@ use shown_kinds::{CHAINS, chain_rows, is_shown, room_for_chains, room_for_rows};
 use tables::{Symbol, number_at};
 
 // The number of a kind in the list.
-#[derive(Drop)]
+#[derive(Clone, Copy)]
 pub struct KindNumber(pub u16);
 
 // Whether the list is closed, or the first symbol over two of its kinds whose kind it does not hold.
-#[derive(Drop)]
+#[derive(Clone, Copy)]
 pub enum Closure {
     Closed,
     Open(Symbol, KindNumber, KindNumber),

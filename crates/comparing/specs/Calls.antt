@@ -21,7 +21,7 @@ pub record CallMeans (S : ℕ) (first second : Slice) (part : Part) (told : Verd
   pub passes : (told ≡ fine) ↔ (SymbolsInRange S × HasDocument S first.now × HasDocument S second.now)
   pub hands : told ≡ fine → HandsBack S first second part
   -- "the empty stretch at the first buffer's start"
-  pub hands_nothing : (number place : ℕ) → told ≡ refused number place → part ≡ record { start = first.ptr; numbers = [] }
+  pub hands_nothing : (number place : ℕ) → told ≡ refused number place → part ≡ record { start = first.ref_ptr; numbers = [] }
 
 -- by what the two functions promise
 pub call_means : (S : ℕ) (first second : Slice) (part : Part) (told : Verdict) → part ≡ shorter_part S first second

@@ -2,6 +2,8 @@
 //
 // Both questions start with `compare`, which tells which buffer's tree comes back and how many numbers it has, or what is refused.
 // `shorter` takes that stretch out of the buffers that were lent. It copies nothing, and what it hands back lives as long as both.
+#![tactic(auto)]
+
 ghost use Rattle.std.specs.Prelude.{◌≡◌};
 ghost use Rattle.model.specs.Answers.{fine};
 ghost use Rattle.model.specs.Admission.{outside};
@@ -15,7 +17,7 @@ use answers::DocumentFault;
 use reading::{Reading, read, taken_of};
 
 // Why two buffers are not compared.
-#[derive(Drop)]
+#[derive(Clone, Copy)]
 pub enum ComparingFault {
     // The symbol count is out of range.
     Symbols,
@@ -26,7 +28,7 @@ pub enum ComparingFault {
 }
 
 // What comparing says.
-#[derive(Drop)]
+#[derive(Clone, Copy)]
 enum Comparison {
     // The first buffer's tree comes back: how many numbers it has.
     First(usize),
@@ -36,7 +38,7 @@ enum Comparison {
 }
 
 // What is told of a refusal.
-#[derive(Drop)]
+#[derive(Clone, Copy)]
 pub enum Refusal {
     Nothing,
     Because(ComparingFault),

@@ -1,5 +1,7 @@
 // The kind of a document: the kinds of the trees that start at each of its places, from the last place to the first, without
 // recursion.
+#![tactic(auto)]
+
 ghost use Rattle.std.specs.Prelude.{◌≡◌, [], ◌∷◌, ◌++◌, ◌+◌, ◌*◌, ◌<◌, ◌≤◌, length};
 ghost use Rattle.model.specs.Documents.{document_tree};
 ghost use Rattle.model.specs.Kinds.{kind_of, empty_kind};

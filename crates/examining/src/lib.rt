@@ -3,6 +3,8 @@
 //
 // The examiner trusts nothing of the list. It makes each kind by the step of a check (`kinds`), in crate `closure`, and tells a breaking kind by
 // the test of a check (`breaking`). It copies no list and writes nothing.
+#![tactic(auto)]
+
 pub mod refusals;
 
 ghost use Rattle.std.specs.Prelude.{◌≡◌, not, ◌||◌, ◌%◌, ◌*◌, ◌/◌, ◌≤◌, eqb, ltb, length};
@@ -30,7 +32,7 @@ use shown_kinds::{CHAINS, chain_rows, is_shown, room_for_chains, room_for_rows};
 use tables::Symbol;
 
 // What the examiner says.
-#[derive(Drop)]
+#[derive(Clone, Copy)]
 pub enum ExaminingAnswer {
     Accepted,
     Contract(ContractFault),

@@ -12,7 +12,7 @@ use closure::KindNumber;
 use tables::Symbol;
 
 // A refusal; its number is 0 where nothing is refused.
-#[derive(Drop)]
+#[derive(Clone, Copy)]
 pub struct Refusal {
     pub number: usize,
     pub place: usize,

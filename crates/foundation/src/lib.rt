@@ -1,1 +1,3 @@
 // The mathematics that every other crate cites: tests, searches and words. It has no code: see specs/.
+#![tactic(auto)]
+

@@ -2,6 +2,8 @@
 //
 // What is read and answered, turn by turn, is `playing`'s and proved there; this program holds the buffers, and writes
 // what each turn prints behind its label.
+#![tactic(auto)]
+
 ghost use Rattle.std.specs.Prelude.{◌≡◌, length};
 ghost use Rattle.script.specs.Meaning.{most_bytes};
 ghost use Rattle.playing.specs.Desks.{LabelFits, InOrder};

@@ -3,6 +3,8 @@
 // A slice is a pointer, then a length. What comes back is document 01's answer in four numbers; specs/Replies.antt gives
 // them, and include/goosedawn.h says in plain words what each function does. Merging two output types, the shorter of two examples and
 // examining a list of kinds have modules of their own.
+#![tactic(auto)]
+
 pub mod examine;
 pub mod merge;
 pub mod refusal;
@@ -27,7 +29,7 @@ use writing::write_out;
 
 // An answer: which one, and its values.
 #[repr(C)]
-#[derive(Drop)]
+#[derive(Clone, Copy)]
 pub struct Reply {
     pub answer: usize,
     pub first: usize,

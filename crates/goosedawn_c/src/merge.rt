@@ -10,7 +10,7 @@ use merging_tests::{fault_number, fault_place};
 
 // How many states the merged type has; 0 where something is refused, and then why. Number and place are 0 where nothing is.
 #[repr(C)]
-#[derive(Drop)]
+#[derive(Clone, Copy)]
 pub struct Merging {
     pub states: usize,
     pub number: usize,

@@ -4,7 +4,7 @@ ghost use Rattle.goosedawn_c.specs.Refusals.{told};
 
 // A refusal's number and place; both are 0 where nothing is refused.
 #[repr(C)]
-#[derive(Drop)]
+#[derive(Clone, Copy)]
 pub struct Told {
     pub number: usize,
     pub place: usize,

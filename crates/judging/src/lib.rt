@@ -1,5 +1,7 @@
 // Judging the document that numbers begin with: whether the contract takes it (it is of the input type and has one root), and whether an
 // output is outside the output type; the kind of its tree is written, and how many numbers it took is told.
+#![tactic(auto)]
+
 ghost use Rattle.std.specs.Prelude.{◌≡◌, length, take};
 ghost use Rattle.model.specs.Tables.{contract};
 ghost use Rattle.model.specs.Documents.{document_tree};

@@ -1,9 +1,11 @@
 // The list of kinds as it stands in the lent buffers: finding a kind, offering one, how the list ends, and closing the buffers then.
+#![tactic(auto)]
+
 pub mod closing;
 pub mod listing;
 
 // How offers to the list end.
-#[derive(Drop)]
+#[derive(Clone, Copy)]
 pub enum Progress {
     // The list has this many rows, and none breaks the contract.
     Going(usize),
@@ -14,7 +16,7 @@ pub enum Progress {
 }
 
 // How the list ends.
-#[derive(Drop)]
+#[derive(Clone, Copy)]
 pub enum ListEnd {
     // All kinds are listed, this many, and none breaks the contract.
     All(usize),

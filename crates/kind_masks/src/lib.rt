@@ -1,4 +1,6 @@
 // The mask of a contract: the bits of a kind that stand for a state, a mark or a fact.
+#![tactic(auto)]
+
 ghost use Rattle.std.specs.Prelude.{◌≡◌, ◌≤◌};
 ghost use Rattle.model.proofs.Laws.Masked.{state_mask};
 ghost use Rattle.kind_masks.specs.Mask.{ones_from, mask_of};

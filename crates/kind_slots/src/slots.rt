@@ -6,11 +6,11 @@ ghost use Rattle.kind_slots.specs.Slots.{kind_sum, weighted_sum, print_of, entry
 use crate::stored::same_kind;
 
 // The number of a slot.
-#[derive(Drop)]
+#[derive(Clone, Copy)]
 pub struct Slot(pub usize);
 
 // The two sums of a kind's words.
-#[derive(Drop)]
+#[derive(Clone, Copy)]
 struct Sums {
     plain: u64,
     weighted: u64,

@@ -2,6 +2,8 @@
 //
 // A word holds a lane of `width` bits for each output state, one bit for each assignment: bit q * width + c says that
 // state q is given at assignment c. `ones` is a lane of ones at state 0, `starts` the first bit of each lane.
+#![tactic(auto)]
+
 ghost use Rattle.std.specs.Prelude.{◌≡◌, [], ◌∷◌, ℕ, ◌+◌, ◌*◌, ◌-◌, ◌/◌, ◌^◌, ◌<◌, ◌≤◌, length, get_or};
 ghost use Rattle.std.specs.Int.Bits.{bit_and};
 ghost use Rattle.kind_words.specs.Lanes.{Sized, Laid, StatesAt, symbol_row, symbol_word, call_lanes};
@@ -24,7 +26,7 @@ pub const RULES: usize = 256;
 
 // How the words of a contract are laid out: its output states, the bits in a lane, a lane of ones at state 0, the first bit
 // of each lane, and the words of the first and the second parameter.
-#[derive(Drop)]
+#[derive(Clone, Copy)]
 pub struct Layout {
     pub states: usize,
     pub width: u64,

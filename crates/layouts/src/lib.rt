@@ -1,5 +1,7 @@
 // What the words of a contract's nodes and facts look like, once for the contract: the layout of its lanes, and its
 // procedures' offsets.
+#![tactic(auto)]
+
 ghost use Rattle.std.specs.Prelude.{◌≡◌, ℕ, ◌<◌, ◌≤◌, max, length, get_or};
 ghost use Rattle.model.specs.Tables.{count_of};
 ghost use Rattle.model.specs.Admission.{most_facts};

@@ -5,7 +5,7 @@ ghost use Rattle.foundation.specs.Lists.{same_list};
 ghost use Rattle.lexing.specs.Words.{word_of, table_word, question_word};
 
 // The sizes of a contract.
-#[derive(Drop)]
+#[derive(Clone, Copy)]
 pub enum Size {
     Symbols,
     InputStates,
@@ -13,7 +13,7 @@ pub enum Size {
 }
 
 // The tables of a contract.
-#[derive(Drop)]
+#[derive(Clone, Copy)]
 pub enum Table {
     Counts,
     InputRows,
@@ -25,7 +25,7 @@ pub enum Table {
 }
 
 // The word that begins a statement.
-#[derive(Drop)]
+#[derive(Clone, Copy)]
 pub enum Word {
     Case,
     Size(Size),

@@ -1,5 +1,7 @@
 // The masks of what each symbol can see of a child's kind: the states that its input rows name on that side, on the right whether the
 // child is the empty forest, and the facts of the procedures that its rules call there.
+#![tactic(auto)]
+
 ghost use Rattle.std.specs.Prelude.{◌≡◌, ◌+◌, ◌*◌, ◌<◌, ◌≤◌, length};
 ghost use Rattle.foundation.specs.Tests.{choose};
 ghost use Rattle.tables.specs.Tuples.{input_row_of, node_of};

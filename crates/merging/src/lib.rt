@@ -2,6 +2,8 @@
 //
 // `merge` tests what is handed in (crate `merging_tests`), then has the two buffers for the result filled (`merging_pairs`). Where anything
 // is refused, nothing is written.
+#![tactic(auto)]
+
 ghost use Rattle.model.specs.Merging.{merging};
 ghost use Rattle.model.specs.Tables.{type_of};
 ghost use Rattle.merging.specs.Answers.{merging_answer, Merges};
@@ -11,7 +13,7 @@ use merging_pairs::pairs::States;
 use merging_tests::{MergingFault, Test, test_result, test_types};
 
 // What merging answers.
-#[derive(Drop)]
+#[derive(Clone, Copy)]
 pub enum MergingAnswer {
     // How many states the merged type has.
     Merged(usize),

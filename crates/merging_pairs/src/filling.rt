@@ -9,7 +9,7 @@ use admission_tables::sizes::table_length;
 use tables::{OutputState, Symbol};
 
 // A symbol over two states of the merged type.
-#[derive(Drop)]
+#[derive(Clone, Copy)]
 struct Place {
     symbol: Symbol,
     left: OutputState,

@@ -11,22 +11,22 @@ ghost use Rattle.merging_pairs.specs.Types.{table_only, marks_only, Few, Marks, 
 use tables::{OutputState, Symbol, number_at};
 
 // A state of the first type.
-#[derive(Drop)]
+#[derive(Clone, Copy)]
 pub struct FirstState(pub OutputState);
 
 // A state of the second type.
-#[derive(Drop)]
+#[derive(Clone, Copy)]
 pub struct SecondState(pub OutputState);
 
 // A state of each type.
-#[derive(Drop)]
+#[derive(Clone, Copy)]
 pub struct Pair {
     pub first: FirstState,
     pub second: SecondState,
 }
 
 // How many states each type has.
-#[derive(Drop)]
+#[derive(Clone, Copy)]
 pub struct States {
     pub first: usize,
     pub second: usize,

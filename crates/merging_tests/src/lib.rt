@@ -1,5 +1,7 @@
 // Tests of two output types that are to be merged: a fault in either type, differing symbol counts, too many states, a buffer that is too
 // short; and the number and place of each.
+#![tactic(auto)]
+
 ghost use Rattle.std.specs.Prelude.{◌≡◌, not, ◌≤◌, eqb};
 ghost use Rattle.model.specs.Answers.{refuse_if, ◌then◌};
 ghost use Rattle.model.specs.Tables.{type_of};
@@ -9,7 +11,7 @@ use admission_tables::entries::first_bad_entry;
 use admission_tables::sizes::{is_outside, table_length};
 
 // Why two types are not merged.
-#[derive(Drop)]
+#[derive(Clone, Copy)]
 pub enum MergingFault {
     // The place of the first type's fault.
     First(usize),
@@ -54,14 +56,14 @@ pub fn fault_place(fault: MergingFault) -> usize
 }
 
 // Whether an output type has a fault, and the lowest place of one.
-#[derive(Drop)]
+#[derive(Clone, Copy)]
 pub enum TypeTest {
     Good,
     Wrong(usize),
 }
 
 // Whether something is wrong, and what.
-#[derive(Drop)]
+#[derive(Clone, Copy)]
 pub enum Test {
     Passed,
     Failed(MergingFault),

@@ -1,1 +1,3 @@
 // Document 01 as definitions: what a reader must believe. It has no code: see specs/.
+#![tactic(auto)]
+

@@ -1,5 +1,7 @@
 // The words of the nodes that a symbol's rules reach: one after another, each once, all assignments of parameter states of a
 // node at once.
+#![tactic(auto)]
+
 ghost use Rattle.std.specs.Prelude.{◌≡◌, cond, ◌+◌, ◌^◌, ◌<◌, ◌≤◌, eqb, length, get_or};
 ghost use Rattle.model.specs.Tables.{node_count};
 ghost use Rattle.kind_words.specs.Blocks.{facts_from, widened};

@@ -1,4 +1,6 @@
 // Numbers of facts: the powers of the number of output states, and where the facts of a procedure begin.
+#![tactic(auto)]
+
 ghost use Rattle.std.specs.Prelude.{◌≡◌, suc, ◌^◌, ◌<◌, ◌≤◌, length};
 ghost use Rattle.model.specs.Facts.{offset, fact_total};
 ghost use Rattle.numbering.specs.Counts.{SmallCounts};

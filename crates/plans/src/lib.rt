@@ -3,6 +3,8 @@
 // First stand the parameter counts of 16 procedures; then the right side of the first rule listed for each of 16 procedures and 17 symbols;
 // the 256 nodes, five numbers each; the numbers of the document; the place where the tree of each of them ends; the symbol of the stay
 // rules; and whether there is one.
+#![tactic(auto)]
+
 ghost use Rattle.std.specs.Prelude.{◌≡◌, ◌+◌, ◌*◌, ◌<◌, ◌≤◌, length, get_or, replicate};
 ghost use Rattle.tables.specs.Tuples.{node_of};
 ghost use Rattle.plans.specs.Plans.{most_procedures, rule_symbols, most_nodes, most_numbers, entries, entry_of, numbers_place, ends_place, plan_length, overlaid, Sides, SmallRules, stay_flag, transformation_of, plan_node, plan_side, plan_stay, plan_sought, plan_most, Laid};

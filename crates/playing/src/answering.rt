@@ -13,7 +13,7 @@ use lines::appending::append_answer_line;
 use script::spans::Span;
 
 // Behind a question: the desk, and what is printed.
-#[derive(Drop)]
+#[derive(Clone, Copy)]
 pub struct Answered {
     pub desk: Desk,
     pub printed: Printed,

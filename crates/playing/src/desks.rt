@@ -6,14 +6,14 @@ ghost use Rattle.playing.specs.Desks.{empty_desk, sizes_with, tables_with, desk_
 use lexing::words::{Size, Table};
 use script::spans::Span;
 
-#[derive(Drop)]
+#[derive(Clone, Copy)]
 pub struct Sizes {
     pub symbols: usize,
     pub input_states: usize,
     pub output_states: usize,
 }
 
-#[derive(Drop)]
+#[derive(Clone, Copy)]
 pub struct Tables {
     pub counts: Span,
     pub input_rows: Span,
@@ -25,7 +25,7 @@ pub struct Tables {
 }
 
 // What the last check, run or judgement left in its buffers.
-#[derive(Drop)]
+#[derive(Clone, Copy)]
 pub enum Left {
     Nothing,
     // So many numbers at the beginning of the row buffer, or words at the beginning of the word buffer.
@@ -37,7 +37,7 @@ pub enum Left {
     Sevens(usize, usize),
 }
 
-#[derive(Drop)]
+#[derive(Clone, Copy)]
 pub struct Desk {
     pub sizes: Sizes,
     pub tables: Tables,
@@ -49,7 +49,7 @@ pub struct Desk {
 }
 
 // The label of the lines: `-` until a token is one.
-#[derive(Drop)]
+#[derive(Clone, Copy)]
 pub enum Label {
     Dash,
     Token(Span),

@@ -2,6 +2,8 @@
 //
 // specs/Desks.antt says which state of `script`'s definition the values and buffers here stand for; the promises are
 // equations with that definition's steps.
+#![tactic(auto)]
+
 pub mod answering;
 pub mod asking;
 pub mod buffers;

@@ -4,7 +4,7 @@ ghost use Rattle.playing.specs.Questions.{lent_to, left_after, Small};
 
 use crate::desks::Left;
 
-#[derive(Drop)]
+#[derive(Clone, Copy)]
 pub enum Question {
     Admit,
     Judge,
@@ -15,7 +15,7 @@ pub enum Question {
 }
 
 // How many numbers and words are lent to a question.
-#[derive(Drop)]
+#[derive(Clone, Copy)]
 pub struct Lent {
     pub rows: usize,
     pub words: usize,

@@ -13,7 +13,7 @@ use script::spans::Span;
 use writing::write_out;
 
 // What a statement prints, in the first bytes of the output buffer.
-#[derive(Drop)]
+#[derive(Clone, Copy)]
 pub enum Printed {
     Nothing,
     // So many bytes without a label.

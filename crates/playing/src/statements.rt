@@ -18,7 +18,7 @@ fn wide(n: u16) -> usize
 }
 
 // What stands behind a statement, and what it prints.
-#[derive(Drop)]
+#[derive(Clone, Copy)]
 pub struct Done {
     pub label: Label,
     pub desk: Desk,

@@ -60,7 +60,7 @@ fn read_next(text: &[u8], cut: bool, at: usize, used: usize, numbers: &mut [u16]
 }
 
 // What stands behind a turn, what it prints, and whether the script goes on.
-#[derive(Drop)]
+#[derive(Clone, Copy)]
 pub struct Turn {
     pub done: Done,
     pub next: usize,

@@ -1,6 +1,8 @@
 // A prepared contract: its tables one behind another in one table of numbers, with what is made of them once, and beside the
 // table the numbers that are no list: sizes, the layout of words, where each part ends, the words that, with the mark of one root, tell a
 // breaking kind.
+#![tactic(auto)]
+
 ghost use Rattle.std.specs.Prelude.{◌≡◌, ◌<◌};
 ghost use Rattle.kind_words.specs.Sizes.{rule_symbols, next_rows};
 ghost use Rattle.kind_words.specs.Kind.{list_of};
@@ -15,7 +17,7 @@ use tables::Symbol;
 //
 // From place 0 the table has the parameter counts, the input rows, the input marks, the output table, the output marks, the
 // nodes and the rules, each to the end that is named after it; behind the rules the lists by symbol.
-#[derive(Drop)]
+#[derive(Clone, Copy)]
 pub struct Prepared {
     pub rounds: usize,
     pub symbols: usize,

@@ -1,4 +1,6 @@
 // Preparing an admitted contract: its tables and what is made of them once, in one table, with the masks of its symbols beside it.
+#![tactic(auto)]
+
 ghost use Rattle.std.specs.Prelude.{◌≡◌, ℕ, ◌+◌, ◌*◌, ◌^◌, ◌<◌, ◌≤◌, length};
 ghost use Rattle.model.specs.Tables.{contract};
 ghost use Rattle.model.proofs.Laws.Established.{Established};
@@ -17,7 +19,7 @@ use reaching::{fill_lists, lists_length};
 use tables::Symbol;
 
 // Where the tables of a contract end that stand one behind another.
-#[derive(Drop)]
+#[derive(Clone, Copy)]
 pub struct Ends {
     pub counts: usize,
     pub rows: usize,

@@ -1,5 +1,7 @@
 // The table of lists, once for a contract: for each symbol its rules and its input rows, in chains, and the nodes that its rules
 // reach, in ascending order, so that a node stands after what it refers to.
+#![tactic(auto)]
+
 ghost use Rattle.std.specs.Prelude.{◌≡◌, true, ℕ, ◌+◌, ◌*◌, ◌/◌, ◌<◌, ◌≤◌, length};
 ghost use Rattle.model.specs.Tables.{input_row_count, node_count, rule_at, rule_count};
 ghost use Rattle.model.proofs.Laws.Established.{GoodNodes};

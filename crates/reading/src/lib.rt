@@ -3,6 +3,8 @@
 //
 // Judging, running and comparing start with `read`; the first two go on with the numbers that the document takes. They find the children of place i by
 // what `fill_ends` fills: the left child starts at place i + 1, the right child where the left one ends.
+#![tactic(auto)]
+
 ghost use Rattle.std.specs.Prelude.{◌≡◌, ◌+◌, ◌-◌, ◌^◌, ◌≤◌, ◌<◌, min, length, get_or};
 ghost use Rattle.model.specs.Documents.{most_numbers, faulty, leading, numbers_taken, verdict_on, leading_verdict};
 ghost use Rattle.model.proofs.Laws.Documents.{due_after, Readable, end_from};
@@ -16,7 +18,7 @@ use tables::{Symbol, symbol_wrong};
 const MOST_NUMBERS: usize = 1023;
 
 // How a stretch of numbers begins.
-#[derive(Drop)]
+#[derive(Clone, Copy)]
 pub enum Leading {
     // With a tree of so many numbers.
     Ends(usize),
@@ -25,7 +27,7 @@ pub enum Leading {
 }
 
 // What reading the document that numbers begin with says.
-#[derive(Drop)]
+#[derive(Clone, Copy)]
 pub enum Reading {
     // Its tree takes so many numbers.
     Takes(usize),

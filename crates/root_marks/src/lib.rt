@@ -1,4 +1,6 @@
 // The two marks in word 0 of a kind, bits 32 and 33: that its trees have one root, and that it is the empty forest's.
+#![tactic(auto)]
+
 ghost use Rattle.std.specs.Prelude.{◌≡◌, ◌*◌, ◌^◌, ◌<◌, ◌≤◌};
 ghost use Rattle.foundation.specs.Words.{one_if};
 ghost use Rattle.model.specs.Kinds.{root_bit, empty_bit, empty_marks, marks_over, marks_in, with_marks};

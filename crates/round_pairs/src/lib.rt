@@ -1,5 +1,7 @@
 // A symbol's part of a round: over the left rows and the right rows that are the first of their class, the kinds of the pairs that
 // could be new are offered to the list.
+#![tactic(auto)]
+
 ghost use Rattle.std.specs.Prelude.{◌≡◌, ◌+◌, ◌≤◌, ◌<◌, ltb};
 ghost use Rattle.foundation.specs.Tests.{choose};
 ghost use Rattle.prepared.specs.Parts.{contract_in, Ready};
@@ -16,7 +18,7 @@ use tables::Symbol;
 
 // A round over the rows below `stood`, which have the kinds of all trees up to a height, under a limit; pairs of rows below `before` were
 // visited.
-#[derive(Drop)]
+#[derive(Clone, Copy)]
 pub struct Round {
     pub limit: usize,
     pub height: usize,
@@ -25,7 +27,7 @@ pub struct Round {
 }
 
 // A place in a round: before the symbol over a left and a right row, where so many rows are listed.
-#[derive(Drop)]
+#[derive(Clone, Copy)]
 pub struct Place {
     pub symbol: Symbol,
     pub left: usize,

@@ -1,5 +1,7 @@
 // The rounds, which list the kinds of a prepared contract. Round 0 lists the kind of the empty forest. Each later one goes through
 // the symbols, until one adds nothing.
+#![tactic(auto)]
+
 ghost use Rattle.std.specs.Prelude.{◌≤◌};
 ghost use Rattle.classes.specs.Masks.{Covered};
 ghost use Rattle.prepared.specs.Parts.{contract_in, Ready};

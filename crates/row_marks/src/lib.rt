@@ -1,5 +1,7 @@
 // Marks of rows. For a symbol, a row matters on a side only through what the symbol's mask shows of its kind. Rows that agree
 // under the mask are of one class, and a row is marked for the symbol where it is the first of its class: a bit a symbol.
+#![tactic(auto)]
+
 ghost use Rattle.std.specs.Prelude.{◌≡◌, false, ◌&&◌, ◌+◌, ◌*◌, ◌^◌, ◌<◌, ◌≤◌, get_or, length};
 ghost use Rattle.foundation.specs.Tests.{choose};
 ghost use Rattle.foundation.specs.Words.{bit};

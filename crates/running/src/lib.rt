@@ -4,6 +4,8 @@
 // Calling a procedure evaluates its right side, and evaluating calls procedures on the children or at the node itself: the calls left fall
 // at each call, the node number at each evaluation. What the work reads stands in one plan, so that a step of it is small. The steps take
 // the tally by value and give it back; over them, `start_lent` takes it lent, and `start_anew` lends it one.
+#![tactic(auto)]
+
 ghost use Rattle.std.specs.Prelude.{◌≡◌, ◌+◌, ◌<◌, ◌≤◌, length, take};
 ghost use Rattle.foundation.specs.Lists.{zero_filled};
 ghost use Rattle.answers.specs.Numbers.{running_answer};
@@ -29,21 +31,21 @@ use reading::{Reading, fill_ends, read, taken_of};
 use tables::{Node, Procedure, Symbol};
 
 // How many rows are used and how many calls are made.
-#[derive(Drop)]
+#[derive(Clone, Copy)]
 pub struct Tally {
     pub used: u16,
     pub calls: u32,
 }
 
 // The rows of two parameters, or of a node's two operands; 0 where there are fewer.
-#[derive(Drop)]
+#[derive(Clone, Copy)]
 pub struct RowPair {
     pub first: u16,
     pub second: u16,
 }
 
 // What a step of the work gives.
-#[derive(Drop)]
+#[derive(Clone, Copy)]
 pub enum Outcome {
     // A row, and the tally after it.
     Made(u16, Tally),
@@ -56,7 +58,7 @@ pub enum Outcome {
 }
 
 // How the work ends: its root row, or a refusal.
-#[derive(Drop)]
+#[derive(Clone, Copy)]
 pub enum End {
     Root(u16),
     NoRule(Procedure),
@@ -65,14 +67,14 @@ pub enum End {
 }
 
 // How the work ends, and the tally that is then reached; where it is refused, the tally with which it began.
-#[derive(Drop)]
+#[derive(Clone, Copy)]
 pub struct Ended {
     pub tally: Tally,
     pub end: End,
 }
 
 // What is said of the buffer and of the document before the work.
-#[derive(Drop)]
+#[derive(Clone, Copy)]
 pub enum Verdict {
     Fine,
     Buffer,

@@ -6,14 +6,14 @@ use lexing::numerals::{Numeral, read_numeral};
 use lexing::tokens::{token_end, token_start};
 
 // From the start of a token to its end.
-#[derive(Drop)]
+#[derive(Clone, Copy)]
 pub struct Span {
     pub start: usize,
     pub end: usize,
 }
 
 // What a script with a fault should have had.
-#[derive(Drop)]
+#[derive(Clone, Copy)]
 pub enum Expected {
     Statement,
     Number,
@@ -25,14 +25,14 @@ pub enum Expected {
 }
 
 // Where a fault stands, and what was expected there.
-#[derive(Drop)]
+#[derive(Clone, Copy)]
 pub struct Fault {
     pub span: Span,
     pub expected: Expected,
 }
 
 // What comes next where a number may stand.
-#[derive(Drop)]
+#[derive(Clone, Copy)]
 pub enum Ahead {
     Number(u16, Span),
     Other(Span),
@@ -40,14 +40,14 @@ pub enum Ahead {
 }
 
 // What comes next where a number must stand: the number, and the place behind it.
-#[derive(Drop)]
+#[derive(Clone, Copy)]
 pub enum Due {
     Number(u16, usize),
     Fault(Fault),
 }
 
 // How a list of numbers ends: how many there are, and the place behind them.
-#[derive(Drop)]
+#[derive(Clone, Copy)]
 pub enum Numbers {
     Ended(usize, usize),
     Fault(Fault),

@@ -7,7 +7,7 @@ use crate::spans::{Due, Expected, Fault, Numbers, Span, due_number, next_span, r
 use lexing::words::{Size, Table, Word, read_word};
 
 // What a list of numbers is for.
-#[derive(Drop)]
+#[derive(Clone, Copy)]
 pub enum Listed {
     Table(Table),
     Rows,
@@ -16,7 +16,7 @@ pub enum Listed {
     Run(u16),
 }
 
-#[derive(Drop)]
+#[derive(Clone, Copy)]
 pub enum Statement {
     // There is no statement any more.
     End,
@@ -35,7 +35,7 @@ pub enum Statement {
 }
 
 // A statement, and the place behind it.
-#[derive(Drop)]
+#[derive(Clone, Copy)]
 pub struct Reading {
     pub statement: Statement,
     pub next: usize,

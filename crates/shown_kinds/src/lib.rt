@@ -2,6 +2,8 @@
 //
 // A list has at most 4,096 kinds, five words each. Its rows are put in chains, one for each remainder that what the mask shows of them
 // leaves: a chain's latest row in front, behind it the one before.
+#![tactic(auto)]
+
 ghost use Rattle.std.specs.Prelude.{◌≡◌, suc, ◌+◌, ◌*◌, ◌/◌, ◌<◌, ◌≤◌, length, set};
 ghost use Rattle.foundation.specs.Tests.{choose};
 ghost use Rattle.shown_kinds.specs.Chains.{remainder_of, shown_at, looks_so, some_looks_so, Behind, EntryOf, Chained, NoRows, in_front, PutInChains};

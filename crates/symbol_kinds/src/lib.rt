@@ -2,6 +2,8 @@
 //
 // What depends on the contract alone is prepared: the layout of its words, the procedures' offsets, and behind its tables the
 // table of lists: for each symbol its rules, its input rows, and the nodes that its rules reach.
+#![tactic(auto)]
+
 ghost use Rattle.std.specs.Prelude.{◌≡◌, [], ◌∷◌, ◌++◌, ◌/◌, ◌^◌, ◌<◌, ◌≤◌, length, take};
 ghost use Rattle.model.specs.Tables.{input_row, input_row_count, rule_at, rule_count};
 ghost use Rattle.model.specs.Kinds.{leaf_kind, symbol_kind};

@@ -3,26 +3,28 @@
 //
 // An input state, an output state, a procedure and a symbol are each a type of their own, so that code that hands one
 // where another is due does not build. A size (how many symbols there are) and a node or row number are plain numbers.
+#![tactic(auto)]
+
 ghost use Rattle.std.specs.Prelude.{◌≡◌, ◌<◌, leb, get_or, length};
 ghost use Rattle.model.specs.Rows.{row_at, row_count};
 ghost use Rattle.model.specs.Tables.{input_row, input_row_count, node_at, node_count, rule_at, rule_count, count_of};
 ghost use Rattle.model.specs.Admission.{references};
 ghost use Rattle.tables.specs.Tuples.{input_row_of, node_of, rule_of, row_of};
 
-#[derive(Drop)]
+#[derive(Clone, Copy)]
 pub struct Symbol(pub u16);
 
-#[derive(Drop)]
+#[derive(Clone, Copy)]
 pub struct InputState(pub u16);
 
-#[derive(Drop)]
+#[derive(Clone, Copy)]
 pub struct OutputState(pub u16);
 
-#[derive(Drop)]
+#[derive(Clone, Copy)]
 pub struct Procedure(pub u16);
 
 // A row of an input type.
-#[derive(Drop)]
+#[derive(Clone, Copy)]
 pub struct InputRow {
     pub state: InputState,
     pub symbol: Symbol,
@@ -31,7 +33,7 @@ pub struct InputRow {
 }
 
 // An expression node. What `name` is depends on the tag: a parameter, a symbol or a procedure.
-#[derive(Drop)]
+#[derive(Clone, Copy)]
 pub struct Node {
     pub tag: u16,
     pub name: u16,
@@ -41,7 +43,7 @@ pub struct Node {
 }
 
 // A rule of a transformation.
-#[derive(Drop)]
+#[derive(Clone, Copy)]
 pub struct Rule {
     pub procedure: Procedure,
     pub symbol: Symbol,
@@ -49,7 +51,7 @@ pub struct Rule {
 }
 
 // A row of a table that stands for trees.
-#[derive(Drop)]
+#[derive(Clone, Copy)]
 pub struct Row {
     pub symbol: Symbol,
     pub left: u16,

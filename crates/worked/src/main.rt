@@ -1,5 +1,7 @@
 // Document 01's worked contracts: a program without input that asks its questions X1 to X13 and prints a line for each,
 // with the case, the answer and its numbers. specs/Lines.antt says what the text is; `stdout` has document 01's lines.
+#![tactic(auto)]
+
 mod contracts;
 mod questions;
 mod texts;

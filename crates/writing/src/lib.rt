@@ -3,6 +3,8 @@
 // Every row is tested first. Then sizes are counted, row by row and no further than the buffer has room, so that a tree
 // that does not fit is refused before anything is written, also one of 2^4096 numbers. Then the tree is written, by a
 // recursion on rows whose numbers fall.
+#![tactic(auto)]
+
 ghost use Rattle.std.specs.Prelude.{◌≡◌, ℕ, ◌+◌, ◌≤◌, ◌<◌, ◌^◌, length, get_or};
 ghost use Rattle.std.proofs.lemmas.List.Edits.{sets};
 ghost use Rattle.foundation.specs.Search.{first};

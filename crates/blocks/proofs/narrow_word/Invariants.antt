@@ -1,0 +1,16 @@
+-- Invariant: the first q lanes are narrowed. Measure: the lanes left.
+use mathlib.Core.Path.{◌≡◌, ◌∙◌}
+use Prim.Native.Nat.{ℕ, ◌*◌, ◌-◌, ◌^◌, ◌≤◌, ◌<◌}
+use native.Mathlib.Omega.{arith}
+use borrow.Author.Tests.{eq-eqb, ne_eqb}
+use Rattle.foundation.specs.Bits.{or_to, or_more, or_none}
+use Rattle.kind_words.specs.Lanes.{Sized}
+use Rattle.kind_words.specs.Blocks.{narrowed_lane, narrowed, narrowed_lane_lt}
+use Rattle.lanes.proofs.Room.{room, put_fits, thin}
+use Rattle.blocks.proofs.narrow_word.Given as goal
+
+abbrev pub invariant-loop-q : goal.invariant-loop-q
+invariant-loop-q l = (l.q ≤ l.states) × (l.from ≡ l.q * l.width) × (l.to ≡ l.q * l.narrow) × (l.block ≡ or_to (λ (y : ℕ). narrowed_lane l.word (y * l.width) l.step l.narrow * 2 ^ (y * l.narrow)) l.q)
+
+abbrev pub decreases-loop-q : goal.decreases-loop-q
+decreases-loop-q l = l.states - l.q

@@ -1,0 +1,14 @@
+-- Invariant: the kinds of the places from i on are kept. Measure: i.
+use mathlib.Core.Path.{◌≡◌, refl, ◌∙◌}
+use Prim.Native.Nat.{suc, ◌+◌, ◌-◌, ◌≤◌}
+use native.Mathlib.Omega.{arith}
+use lib.ListN.{length}
+use Rattle.prepared.specs.Parts.{contract_in}
+use Rattle.document_kinds.specs.Stored.{StoredFrom, stored_none, stored_more}
+use Rattle.document_kinds.proofs.fill_kinds.Given as goal
+
+abbrev pub invariant-loop-i : goal.invariant-loop-i
+invariant-loop-i l = StoredFrom (contract_in l.prepared l.table) l.i l.numbers l.kinds × (l.i ≤ length l.numbers) × (length l.kinds ≡ length l.initial.kinds)
+
+abbrev pub decreases-loop-i : goal.decreases-loop-i
+decreases-loop-i l = l.i

@@ -1,0 +1,16 @@
+-- Round by round; a round that adds nothing closes the kind, and so do as many rounds as there may be facts.
+use mathlib.Core.Path.{◌≡◌, sym, ◌∙◌}
+use Prim.Native.Nat.{◌-◌, ◌≤◌}
+use native.Mathlib.Omega.{arith}
+use borrow.Author.Rules.{rules}
+use Rattle.model.specs.Admission.{most_facts}
+use Rattle.kind_words.specs.Closing.{rounds_on, no_rounds, one_round_more, rounds_fit, rounds_close}
+use Rattle.prepared.specs.Parts.{contract_in}
+use Rattle.kinds.proofs.Rounds.{still_by_test}
+use Rattle.kinds.proofs.closed_kind.Given as goal
+
+abbrev pub invariant-loop-rounds : goal.invariant-loop-rounds
+invariant-loop-rounds l = (l.rounds ≤ most_facts) × (l.closed ≡ rounds_on (contract_in l.prepared l.table) l.rounds l.initial.closed)
+
+abbrev pub decreases-loop-rounds : goal.decreases-loop-rounds
+decreases-loop-rounds l = most_facts - l.rounds

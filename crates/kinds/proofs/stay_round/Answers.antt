@@ -1,0 +1,8 @@
+-- What the stay rules make of the kind is joined to it.
+use Rattle.kind_words.specs.Closing.{round_steps}
+use borrow.Author.Rules.{rules}
+use Rattle.kinds.proofs.stay_round.Goals as goal
+
+-- What the stay rules make of the kind is joined to it.
+pub returns : goal.returns
+returns c = round_steps _ _ c.stay_symbol-stay.ensures c.unmarked_kind-made.ensures c.joined.ensures

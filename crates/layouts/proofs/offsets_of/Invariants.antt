@@ -1,0 +1,15 @@
+-- Invariant: the first p offsets stand in the table. Measure: the procedures left.
+use mathlib.Core.Path.{◌≡◌, refl}
+use Prim.Native.Nat.{ℕ, ◌-◌, ◌≤◌, ◌<◌}
+use native.Mathlib.Omega.{arith}
+use lib.ListN.{length, get_or, length-set}
+use Rattle.model.specs.Facts.{offset}
+use Rattle.foundation.specs.Lists.{filled_more}
+use Rattle.kind_words.specs.Sizes.{most_procedures}
+use Rattle.layouts.proofs.offsets_of.Given as goal
+
+abbrev pub invariant-loop-p : goal.invariant-loop-p
+invariant-loop-p l = (l.p ≤ length l.counts) × (length l.offsets ≡ most_procedures) × ((i : ℕ) → i < l.p → get_or l.offsets i 0 ≡ offset l.states l.counts i)
+
+abbrev pub decreases-loop-p : goal.decreases-loop-p
+decreases-loop-p l = length l.counts - l.p

@@ -1,0 +1,15 @@
+-- Invariant: the word has the parameter's state at each of the first c assignments. Measure: the assignments left.
+use mathlib.Core.Path.{◌≡◌, ◌∙◌}
+use Prim.Native.Nat.{ℕ, ◌*◌, ◌-◌, ◌/◌, ◌%◌, ◌^◌, ◌≤◌, ◌<◌}
+use native.Mathlib.Nat.{mod-lt}
+use native.Mathlib.Omega.{arith}
+use lib.Pow.{pow_pos, pow-lt}
+use Rattle.foundation.specs.Bits.{or_to, or_none, or_more}
+use Rattle.lanes.proofs.Room.{room, one_up, put_fits}
+use Rattle.layouts.proofs.parameter_word.Given as goal
+
+abbrev pub invariant-loop-c : goal.invariant-loop-c
+invariant-loop-c l = (l.c ≤ l.width) × (l.word ≡ or_to (λ (k : ℕ). 1 * 2 ^ k * 2 ^ (k / l.weight % l.states * l.width)) l.c)
+
+abbrev pub decreases-loop-c : goal.decreases-loop-c
+decreases-loop-c l = l.width - l.c

@@ -1,0 +1,16 @@
+-- `read_numeral` meets its contract. The invariant: the token is the numeral that its value and the digits left make.
+-- The measure is what is left of the token. A turn of the loop is one step of the definition.
+use mathlib.Core.Path.{◌≡◌, sym, ◌∙◌}
+use Prim.Native.Nat.{◌-◌, ◌≤◌}
+use native.Mathlib.Omega.{arith}
+use lib.ListN.{length, drop}
+use borrow.Author.Tests.{not-false}
+use Rattle.lexing.specs.Numerals.{numeral_from, numeral_of}
+use Rattle.lexing.proofs.Digits.{digit_least, numeral_further, numeral_stopped, numeral_fits, numeral_large, numeral_none, numeral_some}
+use Rattle.lexing.proofs.numerals.read_numeral.Given as goal
+
+abbrev pub invariant-loop-place : goal.invariant-loop-place
+invariant-loop-place l = (l.value ≤ 65536) × (numeral_from l.value (drop l.place l.token) ≡ numeral_of l.token)
+
+abbrev pub decreases-loop-place : goal.decreases-loop-place
+decreases-loop-place l = length l.token - l.place

@@ -1,0 +1,18 @@
+-- Invariant: a walk along the symbol's chain has come to row k, and the word has the states of the rows before it. Measure: the
+-- rows left.
+use mathlib.Core.Path.{◌≡◌, refl, ap, sym, subst, ◌∙◌}
+use Prim.Native.Nat.{ℕ, ◌-◌, ◌/◌, ◌<◌}
+use native.Mathlib.Omega.{arith}
+use lib.ListN.{length}
+use Rattle.model.specs.Tables.{InputRow, input_row, input_row_count}
+use Rattle.kind_words.specs.Chains.{Walk, walk_starts, walk_goes, walk_less, walk_ends}
+use Rattle.masks.specs.Seen.{state_on, state_bit, states_seen, seen_below, seen_first, seen_next, state_small}
+use Rattle.masks.proofs.states_named.Given as goal
+
+abbrev pub invariant-loop-k : goal.invariant-loop-k
+invariant-loop-k l =
+    (l.count ≡ length l.rows / 4)
+    × Walk (λ i. (input_row l.rows i).symbol) (input_row_count l.rows) (λ s. l.word ≡ seen_below l.rows s l.on_right l.k) l.initial.k l.k
+
+abbrev pub decreases-loop-k : goal.decreases-loop-k
+decreases-loop-k l = l.count - l.k

@@ -1,0 +1,24 @@
+-- Every entry passed is right, and the buffer is as it was behind them; the measure is the entries left.
+use mathlib.Core.Path.{◌≡◌}
+use Prim.Native.Nat.{◌-◌, ◌*◌, ◌≤◌}
+use native.Mathlib.Omega.{arith}
+use Rattle.model.specs.Admission.{table_length}
+use Rattle.model.specs.Merging.{pair_entry}
+use Rattle.model.proofs.Laws.Merging.{table_filled}
+use Rattle.admission_tables.proofs.Bounds.{table_bounds}
+use Rattle.merging_pairs.specs.Types.{table_only}
+use Rattle.merging_pairs.proofs.Written.{Filled, filled_none, filled_next}
+use Rattle.merging_pairs.proofs.filling.fill_table.Goals as goal
+
+pub entry_of-requires : goal.entry_of-requires
+entry_of-requires c =
+    let few = table_bounds c.args.symbols _ c.requires.few.2 c.requires.few.0.few_pairs in
+    record { few = c.requires.few.0; below = (c.requires.below.0, c.requires.below.1, omega (arith, few, c.loop-k.invariant.1)) }
+
+pub returns : goal.returns
+returns c =
+    let args = c.args in
+    let here = c.loop-k in
+    let end : here.k ≡ table_length args.symbols (args.states.first * args.states.second) = omega (arith, here.invariant.1) in
+    let filled = rw end at here.invariant.2 in
+    table_filled args.symbols (table_only args.states.first args.first.now) (table_only args.states.second args.second.now) _ _ filled.long (omega (arith, c.requires.second_in_bounds, filled.long)) filled.right filled.kept

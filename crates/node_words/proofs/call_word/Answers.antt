@@ -1,0 +1,14 @@
+-- One answer for each count of parameters; an argument's word is read only where the procedure has that parameter.
+use mathlib.Core.Path.{◌∙◌}
+use Prim.Native.Nat.{◌-◌}
+use native.Mathlib.Omega.{arith}
+use borrow.Author.Rules.{rules}
+use Rattle.kind_words.specs.Nodes.{call_none, call_first, call_both}
+use Rattle.lanes.proofs.Room.{square_small, times_fits, ones_less}
+use Rattle.node_words.proofs.call_word.Goals as goal
+
+-- One answer for each count of parameters; an argument's word is read only where the procedure has that parameter.
+pub spread-requires : goal.spread-requires
+spread-requires c =
+    let args = c.args in
+    (omega arith, times_fits args.layout.states args.layout.width args.layout.ones args.layout.starts args.layout.ones args.facts 0 c.requires.0.laid (ones_less args.layout.width args.layout.ones c.requires.0.laid.lane))

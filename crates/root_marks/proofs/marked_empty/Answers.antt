@@ -1,0 +1,10 @@
+-- By the definition: the one mark is added.
+use native.Mathlib.Omega.{arith}
+use borrow.Author.Rules.{rules}
+use Rattle.model.specs.Kinds.{with_marks}
+use Rattle.root_marks.proofs.marked_empty.Goals as goal
+
+-- By the definition: the one mark is added.
+pub returns : goal.returns
+unfolding with_marks
+returns c = omega (arith, c.empty_mark.ensures)

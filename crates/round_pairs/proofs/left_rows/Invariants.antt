@@ -1,0 +1,18 @@
+-- Invariant: the loops stand at a left row. Measure: the left rows left.
+use mathlib.Core.Path.{refl, sym, ◌∙◌}
+use Prim.Native.Nat.{◌-◌, ◌≤◌}
+use native.Mathlib.Omega.{arith}
+use borrow.Author.Rules.{rules}
+use Rattle.prepared.specs.Parts.{contract_in}
+use Rattle.kind_lists.proofs.Stops.{ends, goes}
+use Rattle.round_pairs.specs.Steps.{At, pass_lefts, pass_rights, begin_right, next_symbol}
+use Rattle.round_pairs.proofs.Visits.{at_room, at_stood, at_right, at_lengths}
+use borrow.Author.Rules.{rules}
+use Rattle.round_pairs.proofs.left_rows.Given as goal
+
+abbrev pub invariant-loop-left : goal.invariant-loop-left
+invariant-loop-left l =
+    At (contract_in l.prepared l.table) l.round l.symbol.0 l.left 0 l.total l.slots l.rows l.words × (l.left ≤ l.round.stood)
+
+abbrev pub decreases-loop-left : goal.decreases-loop-left
+decreases-loop-left l = l.round.stood - l.left

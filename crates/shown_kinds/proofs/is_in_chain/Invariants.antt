@@ -1,0 +1,12 @@
+-- Invariant: a row below the entry looks so exactly if one below `next` does, and `next` is an entry of the chain. Measure: `next`, as the
+-- row behind a row comes before it.
+use mathlib.Core.Path.{◌≡◌, refl, subst, sym, ◌∙◌}
+use native.Mathlib.Omega.{arith}
+use Rattle.shown_kinds.proofs.Latest.{Reached, reached_row, reached_behind, reached_end}
+use Rattle.shown_kinds.proofs.is_in_chain.Given as goal
+
+abbrev pub invariant-loop-next : goal.invariant-loop-next
+invariant-loop-next l = Reached l.words l.mask l.seen l.entry l.next
+
+abbrev pub decreases-loop-next : goal.decreases-loop-next
+decreases-loop-next l = l.next
