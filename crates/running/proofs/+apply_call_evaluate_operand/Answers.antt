@@ -1,4 +1,5 @@
 -- What each answer is, the lemmas of Evaluating and Calling say, one for each place at which the code returns.
+use borrow.Enum.Refused.{opened}
 use mathlib.Core.Path.{◌≡◌, refl, ◌∙◌}
 use Prim.Native.Nat.{ℕ, ◌+◌, ◌*◌, ◌-◌, ◌<◌, ◌≤◌}
 use native.Mathlib.Omega.{arith}
@@ -96,7 +97,7 @@ evaluate-operand-x-requires t c =
 
 pub evaluate-enum_known-x : goal.evaluate-enum_known-x
 evaluate-enum_known-x t c =
-    c.in-Made.keys1
+    c.in-Made.in-Made-own.keys1
 
 pub evaluate-shape_of-rows-in_default : goal.evaluate-shape_of-rows-in_default
 evaluate-shape_of-rows-in_default t c =
@@ -104,17 +105,17 @@ evaluate-shape_of-rows-in_default t c =
 
 pub evaluate-returns-in_default : goal.evaluate-returns-in_default
 evaluate-returns-in_default t c =
-    λ asked. first_stopped asked (node_of c.node_of-here.result) c.node_of-here.ensures c.if-here-eq0.false c.args.given.first c.args.given.second c.args.rows.now c.args.tally c.operand-x.result c.operand-x.new.rows c.operand-x.ensures c.in_default.keys2
+    λ asked. first_stopped asked (node_of c.node_of-here.result) c.node_of-here.ensures c.if-here-eq0.false c.args.given.first c.args.given.second c.args.rows.now c.args.tally c.operand-x.result c.operand-x.new.rows c.operand-x.ensures (opened c.in_default.in_default-own.keys2)
 
 pub evaluate-operand-y-requires : goal.evaluate-operand-y-requires
 evaluate-operand-y-requires t c =
     let first_calls : c.args.tally.calls ≤ c.in-Made.after_left.calls = first_grown c.requires.evaluable_in (node_of c.node_of-here.result) c.node_of-here.ensures c.if-here-eq0.false c.args.given.first c.args.given.second c.args.rows.now c.args.tally c.operand-x.result c.operand-x.new.rows c.operand-x.ensures c.in-Made.left c.in-Made.after_left c.in-Made.is c.operand-x.auto.rows in
     let first_rows_lem : length c.operand-x.new.rows ≤ 12288 = let same : length c.operand-x.new.rows ≡ length c.args.rows.now = c.operand-x.auto.rows in omega (arith, same, c.requires.rows_len_bound) in
-    let grown = first_calls in (omega (arith, c.decreases), (operable c.requires.evaluable_in (node_of c.node_of-here.result) c.node_of-here.ensures c.if-here-eq0.false, (record { least≤ = omega arith; ≤most = omega arith }, first_rows_lem))
+    let grown = first_calls in (omega (arith, c.decreases), (operable c.requires.evaluable_in (node_of c.node_of-here.result) c.node_of-here.ensures c.if-here-eq0.false, (record { least≤ = omega arith; ≤most = omega arith }, first_rows_lem)))
 
 pub evaluate-enum_known-y : goal.evaluate-enum_known-y
 evaluate-enum_known-y t c =
-    c.in-Made-y.keys1
+    c.in-Made-y.in-Made-y-own.keys1
 
 pub evaluate-shape_of-rows-in_default-y : goal.evaluate-shape_of-rows-in_default-y
 evaluate-shape_of-rows-in_default-y t c =
@@ -122,15 +123,15 @@ evaluate-shape_of-rows-in_default-y t c =
 
 pub evaluate-returns-in_default-y : goal.evaluate-returns-in_default-y
 evaluate-returns-in_default-y t c =
-    λ asked. second_stopped asked (node_of c.node_of-here.result) c.node_of-here.ensures c.if-here-eq0.false c.args.given.first c.args.given.second c.args.rows.now c.args.tally c.operand-x.result c.operand-x.new.rows c.operand-x.ensures c.in-Made.left c.in-Made.after_left c.in-Made.is c.operand-x.auto.rows c.operand-y.result c.operand-y.new.rows c.operand-y.ensures c.in_default-y.keys2
+    λ asked. second_stopped asked (node_of c.node_of-here.result) c.node_of-here.ensures c.if-here-eq0.false c.args.given.first c.args.given.second c.args.rows.now c.args.tally c.operand-x.result c.operand-x.new.rows c.operand-x.ensures c.in-Made.left c.in-Made.after_left c.in-Made.is c.operand-x.auto.rows c.operand-y.result c.operand-y.new.rows c.operand-y.ensures (opened c.in_default-y.in_default-y-own.keys2)
 
 pub evaluate-apply-requires : goal.evaluate-apply-requires
 evaluate-apply-requires t c =
     let first_calls : c.args.tally.calls ≤ c.in-Made.after_left.calls = first_grown c.requires.evaluable_in (node_of c.node_of-here.result) c.node_of-here.ensures c.if-here-eq0.false c.args.given.first c.args.given.second c.args.rows.now c.args.tally c.operand-x.result c.operand-x.new.rows c.operand-x.ensures c.in-Made.left c.in-Made.after_left c.in-Made.is c.operand-x.auto.rows in
     let second_calls : c.in-Made.after_left.calls ≤ c.in-Made-y.after_right.calls = second_grown c.requires.evaluable_in (node_of c.node_of-here.result) c.node_of-here.ensures c.if-here-eq0.false c.args.given.first c.args.given.second c.args.rows.now c.args.tally c.operand-x.result c.operand-x.new.rows c.operand-x.ensures c.in-Made.left c.in-Made.after_left c.in-Made.is c.operand-x.auto.rows c.operand-y.result c.operand-y.new.rows c.operand-y.ensures c.in-Made-y.right c.in-Made-y.after_right c.in-Made-y.is in
     let first_rows_lem : length c.operand-x.new.rows ≤ 12288 = let same : length c.operand-x.new.rows ≡ length c.args.rows.now = c.operand-x.auto.rows in omega (arith, same, c.requires.rows_len_bound) in
-    let second_rows : length c.operand-y.new.rows ≤ 12288 = let same : length c.operand-y.new.rows ≡ length c.operand-x.new.rows = c.operand-y.auto.rows in omega (arith, same, first_rows_lem in
-    let grown = first_calls in let more = second_calls in (omega (arith, c.decreases), (operable c.requires.evaluable_in (node_of c.node_of-here.result) c.node_of-here.ensures c.if-here-eq0.false, second_rows)
+    let second_rows : length c.operand-y.new.rows ≤ 12288 = let same : length c.operand-y.new.rows ≡ length c.operand-x.new.rows = c.operand-y.auto.rows in omega (arith, same, first_rows_lem) in
+    let grown = first_calls in let more = second_calls in (omega (arith, c.decreases), (operable c.requires.evaluable_in (node_of c.node_of-here.result) c.node_of-here.ensures c.if-here-eq0.false, second_rows))
 
 pub evaluate-shape_of-rows : goal.evaluate-shape_of-rows
 evaluate-shape_of-rows t c =

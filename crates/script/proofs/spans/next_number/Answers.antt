@@ -17,6 +17,12 @@ returns-then-text-start c = ahead_end c.args.text.now c.args.at c.next_span-span
 pub slice_bounds-read_numeral-count : goal.slice_bounds-read_numeral-count
 slice_bounds-read_numeral-count c = span_least c.args.text.now c.args.at c.next_span-span.result c.next_span-span.ensures
 
+pub slice_bounds-read_numeral-start : goal.slice_bounds-read_numeral-start
+slice_bounds-read_numeral-start c = omega (arith, span_least c.args.text.now c.args.at c.next_span-span.result c.next_span-span.ensures, span_most c.args.text.now c.args.at c.next_span-span.result c.next_span-span.ensures (omega arith))
+
+pub slice_bounds-read_numeral-end : goal.slice_bounds-read_numeral-end
+slice_bounds-read_numeral-end c = span_most c.args.text.now c.args.at c.next_span-span.result c.next_span-span.ensures (omega arith)
+
 pub returns-in-Number : goal.returns-in-Number
 returns-in-Number c = ahead_token c.args.text.now c.args.at c.next_span-span.result c.next_span-span.ensures c.args.cut c.if-cut-text.false (omega arith) _ (sym c.read_numeral-numeral.ensures ∙ c.in-Number.is)
 

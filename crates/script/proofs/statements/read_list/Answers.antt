@@ -7,8 +7,10 @@ use Rattle.script.proofs.statements.read_list.Goals as goal
 -- `read_list` meets its contract: the answer is the definition's for how the list ends, and the buffer holds the list.
 pub returns-in-Ended : goal.returns-in-Ended
 unfolding list_at
-returns-in-Ended c = (ap (list_by c.args.listed c.args.at) (sym c.in-Ended.is ∙ c.read_numbers-numbers.ensures.value), c.read_numbers-numbers.ensures.buffer_after)
+returns-in-Ended c =
+    record { value = ap (list_by c.args.listed c.args.at) (sym c.in-Ended.is ∙ c.read_numbers-numbers.ensures.value); buffer_after = c.read_numbers-numbers.ensures.buffer_after }
 
 pub returns-in-Fault : goal.returns-in-Fault
 unfolding list_at
-returns-in-Fault c = (ap (list_by c.args.listed c.args.at) (sym c.in-Fault.is ∙ c.read_numbers-numbers.ensures.value), c.read_numbers-numbers.ensures.buffer_after)
+returns-in-Fault c =
+    record { value = ap (list_by c.args.listed c.args.at) (sym c.in-Fault.is ∙ c.read_numbers-numbers.ensures.value); buffer_after = c.read_numbers-numbers.ensures.buffer_after }

@@ -1,0 +1,7 @@
+-- The range is that of a contract's symbols.
+use borrow.Author.Rules.{rules}
+use Rattle.comparing.proofs.symbols_wrong.Goals as goal
+
+-- The range is that of a contract's symbols.
+pub returns : goal.returns
+returns c = c.is_outside.ensures

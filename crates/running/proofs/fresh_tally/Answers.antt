@@ -1,0 +1,7 @@
+-- `running::fresh_tally` meets its contract: no rows and no calls.
+use mathlib.Core.Path.{refl}
+use Rattle.running.proofs.fresh_tally.Goals as goal
+
+-- `running::fresh_tally` meets its contract: no rows and no calls.
+pub returns : goal.returns
+returns c = refl
