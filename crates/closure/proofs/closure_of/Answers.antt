@@ -1,5 +1,4 @@
 -- Invariant: the symbols before this one are closed. Measure: the symbols left.
-use borrow.Enum.Refused.{opened}
 use Prim.Native.Nat.{◌-◌, ◌≤◌}
 use native.Mathlib.Omega.{arith}
 use Rattle.prepared.specs.Parts.{contract_in}
@@ -16,10 +15,10 @@ pub enum_told-1 : goal.enum_told-1
 enum_told-1 c = c.in-Closed.in-Closed-own.keys1
 
 pub enum_told-in_default : goal.enum_told-in_default
-enum_told-in_default c = (opened c.in_default.in_default-own.keys2)
+enum_told-in_default c = c.in_default.in_default-own.keys2
 
 pub returns-in_default : goal.returns-in_default
-returns-in_default c = (open_told _ c.requires.0.prepared.established _ _ c.symbol_closure-step.result (opened c.in_default.in_default-own.keys2) c.loop-number.invariant.1 (omega (arith, c.loop-number-test.true)) c.loop-number.invariant.0 c.symbol_closure-step.ensures, told_inside _ c.requires.0.prepared.established c.args.words.now c.loop-number.number c.symbol_closure-step.result c.symbol_closure-step.ensures)
+returns-in_default c = (open_told _ c.requires.0.prepared.established _ _ c.symbol_closure-step.result c.in_default.in_default-own.keys2 c.loop-number.invariant.1 (omega (arith, c.loop-number-test.true)) c.loop-number.invariant.0 c.symbol_closure-step.ensures, told_inside _ c.requires.0.prepared.established c.args.words.now c.loop-number.number c.symbol_closure-step.result c.symbol_closure-step.ensures)
 
 pub overflow_add-number : goal.overflow_add-number
 overflow_add-number c = omega (arith, c.loop-number-test.true, c.requires.0.prepared.established.symbols.≤most)
