@@ -4,12 +4,14 @@
 // what each turn prints behind its label.
 #![tactic(auto)]
 
-ghost use Rattle.std.specs.Prelude.{◌≡◌, length};
+ghost use Rattle.std.specs.Prelude.{◌≡◌, ◌≤◌, length, IfOk};
 ghost use Rattle.script.specs.Meaning.{most_bytes};
 ghost use Rattle.playing.specs.Desks.{LabelFits, InOrder};
 ghost use Rattle.playing.specs.Printed.{PrintedFits};
 
-use libc::STDOUT_FILENO;
+use std::io;
+use std::io::Read;
+
 use lines::help::append_help;
 use playing::desks::{Desk, Label, empty_desk};
 use playing::help::asks_help;
@@ -66,48 +68,54 @@ fn next_turn(
 }
 
 // Writes the label of a line.
-fn print_label(text: &[u8], label: Label) -> bool
+fn print_label(rt: &impl Print, text: &[u8], label: Label) -> io::Result<()>
     requires { LabelFits label (length text.now) }
 {
     match label {
-        Label::Dash => io::write_all(STDOUT_FILENO, b"-"),
+        Label::Dash => rt.write_all(b"-"),
         Label::Token(name) => {
             let start = name.start;
             let end = name.end;
-            io::write_all(STDOUT_FILENO, &text[start..end])
+            rt.write_all(&text[start..end])
         }
     }
 }
 
 // Writes what a turn printed.
-fn print(text: &[u8], label: Label, printed: Printed, out: &[u8]) -> bool
+fn print(rt: &impl Print, text: &[u8], label: Label, printed: Printed, out: &[u8]) -> io::Result<()>
     requires { LabelFits label (length text.now) × PrintedFits printed (length out.now) }
 {
     match printed {
-        Printed::Nothing => true,
-        Printed::Bare(n) => io::write_all(STDOUT_FILENO, &out[..n]),
+        Printed::Nothing => Ok(()),
+        Printed::Bare(n) => rt.write_all(&out[..n]),
         Printed::Line(n) => {
-            print_label(text, label);
-            io::write_all(STDOUT_FILENO, &out[..n])
+            print_label(rt, text, label)?;
+            rt.write_all(&out[..n])
         }
         Printed::Lines(n, m) => {
-            print_label(text, label);
-            io::write_all(STDOUT_FILENO, &out[..n]);
-            print_label(text, label);
-            io::write_all(STDOUT_FILENO, &out[n..m])
+            print_label(rt, text, label)?;
+            rt.write_all(&out[..n])?;
+            print_label(rt, text, label)?;
+            rt.write_all(&out[n..m])
         }
     }
 }
 
 // The same from a buffer of this size.
-fn print_turn(text: &[u8], label: Label, printed: Printed, out: &[u8; 1441792]) -> bool
+fn print_turn(
+    rt: &impl Print,
+    text: &[u8],
+    label: Label,
+    printed: Printed,
+    out: &[u8; 1441792],
+) -> io::Result<()>
     requires { LabelFits label (length text.now) × PrintedFits printed (length out.now) }
 {
-    print(text, label, printed, out)
+    print(rt, text, label, printed, out)
 }
 
 // Plays a script: as many turns as it has bytes, and one more, are enough.
-fn play(text: &[u8], cut: bool) {
+fn play(rt: &impl Print, text: &[u8], cut: bool) -> io::Result<()> {
     let mut numbers = number_buffer();
     let mut rows = row_buffer();
     let mut words = word_buffer();
@@ -134,12 +142,12 @@ fn play(text: &[u8], cut: bool) {
         label = done.label;
         desk = done.desk;
         let printed = done.printed;
-        let written = print_turn(text, label, printed, &out);
-        if !(written & turn.goes_on) {
-            return;
+        print_turn(rt, text, label, printed, &out)?;
+        if !turn.goes_on {
+            return Ok(());
         }
         if left == 0 {
-            return;
+            return Ok(());
         }
         at = turn.next;
         left -= 1;
@@ -147,20 +155,21 @@ fn play(text: &[u8], cut: bool) {
 }
 
 // Prints the statements, a line each.
-fn print_help() {
+fn print_help(rt: &impl Print) -> io::Result<()> {
     let mut out = help_buffer();
     let end = append_help(&mut out, 0);
     if end <= 4096 {
-        io::write_all(STDOUT_FILENO, &out[..end]);
+        rt.write_all(&out[..end])?;
     }
+    Ok(())
 }
 
 // Answers the script, of which at most so much is read.
-fn answer(text: &[u8], cut: bool) {
+fn answer(rt: &impl Print, text: &[u8], cut: bool) -> io::Result<()> {
     if asks_help(text, cut) {
-        print_help();
+        print_help(rt)
     } else {
-        play(text, cut);
+        play(rt, text, cut)
     }
 }
 
@@ -171,13 +180,28 @@ fn most_bytes() -> usize
     1572864
 }
 
-fn main() {
+// Fills a buffer as far as there is something to read, and says how many bytes were read.
+fn read_full(reader: &mut impl Read, buffer: &mut [u8]) -> io::Result<usize>
+    ensures { IfOk result (λ got. got ≤ length buffer.new) }
+{
+    let mut got = 0;
+    while got < buffer.len() {
+        let more = reader.read(&mut buffer[got..])?;
+        if more == 0 {
+            return Ok(got);
+        }
+        got += more;
+    }
+    Ok(got)
+}
+
+fn main(rt: HostRuntime) -> io::Result<()> {
     let most = most_bytes();
     let mut buffer = text_buffer();
-    let got = io::read_full(0, &mut buffer);
+    let got = read_full(&mut rt.reader(), &mut buffer)?;
     if most < got {
-        answer(&buffer[..most], true);
+        answer(&rt, &buffer[..most], true)
     } else {
-        answer(&buffer[..got], false);
+        answer(&rt, &buffer[..got], false)
     }
 }

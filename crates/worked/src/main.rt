@@ -11,6 +11,8 @@ ghost use Rattle.std.proofs.lemmas.List.Edits.{sets};
 ghost use Rattle.printing.specs.Appending.{place_after};
 ghost use Rattle.worked.specs.Lines.{checks_of_c1, runs_of_c2, judgings_of_c1, lines_of_c3, worked_lines};
 
+use std::io;
+
 use crate::contracts::{check_c1, check_c3, judge_c1, run_c2, run_c3};
 
 // X1 to X5.
@@ -65,8 +67,8 @@ fn worked(out: &mut [u8]) -> usize
     lines_of_c3(out, place)
 }
 
-fn main() {
+fn main(rt: HostRuntime) -> io::Result<()> {
     let mut out = [0u8; 256];
     let end = worked(&mut out);
-    io::write_all(1, &out[..end]);
+    rt.write_all(&out[..end])
 }

@@ -1,0 +1,7 @@
+-- The definition's two tests.
+use mathlib.Core.Path.{refl}
+use Rattle.examining.proofs.length_wrong.Goals as goal
+
+-- The definition's two tests.
+pub returns : goal.returns
+returns c = refl
