@@ -9,14 +9,13 @@ ghost use Rattle.script.specs.Meaning.{most_bytes};
 ghost use Rattle.playing.specs.Desks.{LabelFits, InOrder};
 ghost use Rattle.playing.specs.Printed.{PrintedFits};
 
-use std::io;
-use std::io::Read;
-
 use lines::help::append_help;
 use playing::desks::{Desk, Label, empty_desk};
 use playing::help::asks_help;
 use playing::showing::Printed;
 use playing::turns::{Turn, play_turn};
+use std::io;
+use std::io::Read;
 
 // A byte more than is read of a script tells whether it goes on.
 fn text_buffer() -> [u8; 1572865] {

@@ -11,9 +11,8 @@ ghost use Rattle.std.proofs.lemmas.List.Edits.{sets};
 ghost use Rattle.printing.specs.Appending.{place_after};
 ghost use Rattle.worked.specs.Lines.{checks_of_c1, runs_of_c2, judgings_of_c1, lines_of_c3, worked_lines};
 
-use std::io;
-
 use crate::contracts::{check_c1, check_c3, judge_c1, run_c2, run_c3};
+use std::io;
 
 // X1 to X5.
 fn checks_of_c1(out: &mut [u8], at: usize) -> usize

@@ -26,8 +26,11 @@ returns-in_default-types c =
 pub admit_expressions-requires : goal.admit_expressions-requires
 admit_expressions-requires c =
     let a = c.args in
-    let shaped = part_passed _ _ c.in-Admitted.is c.admit_shape-shape.ensures in record { small_counts = small-counts a.symbols a.input_states a.output_states a.counts.now a.input_rows.now a.input_marks.now a.output_table.now a.output_marks.now a.nodes.now a.rules.now shaped
-          (part_passed _ _ c.in-Admitted-types.is c.admit_types-types.ensures); nodes_bound = few-nodes a.symbols a.input_states a.output_states a.counts.now a.input_rows.now a.input_marks.now a.output_table.now a.output_marks.now a.nodes.now a.rules.now shaped }
+    let shaped = part_passed _ _ c.in-Admitted.is c.admit_shape-shape.ensures in record {
+      small_counts = small-counts a.symbols a.input_states a.output_states a.counts.now a.input_rows.now a.input_marks.now a.output_table.now a.output_marks.now a.nodes.now a.rules.now shaped
+          (part_passed _ _ c.in-Admitted-types.is c.admit_types-types.ensures);
+      nodes_bound = few-nodes a.symbols a.input_states a.output_states a.counts.now a.input_rows.now a.input_marks.now a.output_table.now a.output_marks.now a.nodes.now a.rules.now shaped;
+    }
 
 pub returns : goal.returns
 returns c =

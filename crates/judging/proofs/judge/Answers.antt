@@ -26,22 +26,22 @@ returns-in-Refused-reading c = refused_document _ _ _ (admitted_fine _ _ c.in_de
 pub table_length-length-requires : goal.table_length-length-requires
 table_length-length-requires c =
     let handed : Contract = let a = c.args in contract a.symbols a.input_states a.output_states a.counts.now a.input_rows.now a.input_marks.now a.output_table.now a.output_marks.now a.nodes.now a.rules.now in
-    let let-in : LetIn handed c.taken_of-taken.result c.args.numbers.now c.args.kind.now = record { passed = admitted_fine _ _ c.in_default.is c.admit-admission.ensures; known = admitted_established _ _ c.in_default.is c.admit-admission.ensures; five = omega (arith, c.if-kind-ne5.false); read = taken_fine _ _ _ (sym c.read-reading.ensures.result_value ∙ ap reading_verdict c.in_default-reading.is) (c.taken_of-taken.ensures ∙ c.read-reading.ensures.result_value_2); } in short _ let-in.known
+    let let-in : LetIn handed c.taken_of-taken.result c.args.numbers.now c.args.kind.now = record { passed = admitted_fine _ _ c.in_default.is c.admit-admission.ensures; known = admitted_established _ _ c.in_default.is c.admit-admission.ensures; five = omega (arith, c.if-kind-ne5.false); read = taken_fine _ _ _ (sym c.read-reading.ensures.result_value ∙ ap reading_verdict c.in_default-reading.is) (c.taken_of-taken.ensures ∙ c.read-reading.ensures.result_value_2) } in short _ let-in.known
 
 pub prepare-prepared-requires : goal.prepare-prepared-requires
 prepare-prepared-requires c =
     let handed : Contract = let a = c.args in contract a.symbols a.input_states a.output_states a.counts.now a.input_rows.now a.input_marks.now a.output_table.now a.output_marks.now a.nodes.now a.rules.now in
-    let let-in : LetIn handed c.taken_of-taken.result c.args.numbers.now c.args.kind.now = record { passed = admitted_fine _ _ c.in_default.is c.admit-admission.ensures; known = admitted_established _ _ c.in_default.is c.admit-admission.ensures; five = omega (arith, c.if-kind-ne5.false); read = taken_fine _ _ _ (sym c.read-reading.ensures.result_value ∙ ap reading_verdict c.in_default-reading.is) (c.taken_of-taken.ensures ∙ c.read-reading.ensures.result_value_2); } in (let-in.known, omega (arith, c.table_length-length.ensures), omega arith)
+    let let-in : LetIn handed c.taken_of-taken.result c.args.numbers.now c.args.kind.now = record { passed = admitted_fine _ _ c.in_default.is c.admit-admission.ensures; known = admitted_established _ _ c.in_default.is c.admit-admission.ensures; five = omega (arith, c.if-kind-ne5.false); read = taken_fine _ _ _ (sym c.read-reading.ensures.result_value ∙ ap reading_verdict c.in_default-reading.is) (c.taken_of-taken.ensures ∙ c.read-reading.ensures.result_value_2) } in (let-in.known, omega (arith, c.table_length-length.ensures), omega arith)
 
 pub slice_bounds-judge_prepared-end-then-length-le512 : goal.slice_bounds-judge_prepared-end-then-length-le512
 slice_bounds-judge_prepared-end-then-length-le512 c =
     let handed : Contract = let a = c.args in contract a.symbols a.input_states a.output_states a.counts.now a.input_rows.now a.input_marks.now a.output_table.now a.output_marks.now a.nodes.now a.rules.now in
-    let let-in : LetIn handed c.taken_of-taken.result c.args.numbers.now c.args.kind.now = record { passed = admitted_fine _ _ c.in_default.is c.admit-admission.ensures; known = admitted_established _ _ c.in_default.is c.admit-admission.ensures; five = omega (arith, c.if-kind-ne5.false); read = taken_fine _ _ _ (sym c.read-reading.ensures.result_value ∙ ap reading_verdict c.in_default-reading.is) (c.taken_of-taken.ensures ∙ c.read-reading.ensures.result_value_2); } in sym (all_taken let-in.read)
+    let let-in : LetIn handed c.taken_of-taken.result c.args.numbers.now c.args.kind.now = record { passed = admitted_fine _ _ c.in_default.is c.admit-admission.ensures; known = admitted_established _ _ c.in_default.is c.admit-admission.ensures; five = omega (arith, c.if-kind-ne5.false); read = taken_fine _ _ _ (sym c.read-reading.ensures.result_value ∙ ap reading_verdict c.in_default-reading.is) (c.taken_of-taken.ensures ∙ c.read-reading.ensures.result_value_2) } in sym (all_taken let-in.read)
 
 pub judge_prepared-requires : goal.judge_prepared-requires
 judge_prepared-requires c =
     let handed : Contract = let a = c.args in contract a.symbols a.input_states a.output_states a.counts.now a.input_rows.now a.input_marks.now a.output_table.now a.output_marks.now a.nodes.now a.rules.now in
-    let let-in : LetIn handed c.taken_of-taken.result c.args.numbers.now c.args.kind.now = record { passed = admitted_fine _ _ c.in_default.is c.admit-admission.ensures; known = admitted_established _ _ c.in_default.is c.admit-admission.ensures; five = omega (arith, c.if-kind-ne5.false); read = taken_fine _ _ _ (sym c.read-reading.ensures.result_value ∙ ap reading_verdict c.in_default-reading.is) (c.taken_of-taken.ensures ∙ c.read-reading.ensures.result_value_2); } in
+    let let-in : LetIn handed c.taken_of-taken.result c.args.numbers.now c.args.kind.now = record { passed = admitted_fine _ _ c.in_default.is c.admit-admission.ensures; known = admitted_established _ _ c.in_default.is c.admit-admission.ensures; five = omega (arith, c.if-kind-ne5.false); read = taken_fine _ _ _ (sym c.read-reading.ensures.result_value ∙ ap reading_verdict c.in_default-reading.is) (c.taken_of-taken.ensures ∙ c.read-reading.ensures.result_value_2) } in
     let made = c.prepare-prepared.ensures in
     let past = let-in in
     (made.ready, document_in past.read _ made.contract, past.five)
@@ -49,22 +49,22 @@ judge_prepared-requires c =
 pub returns-then-length-le512 : goal.returns-then-length-le512
 returns-then-length-le512 c =
     let handed : Contract = let a = c.args in contract a.symbols a.input_states a.output_states a.counts.now a.input_rows.now a.input_marks.now a.output_table.now a.output_marks.now a.nodes.now a.rules.now in
-    let let-in : LetIn handed c.taken_of-taken.result c.args.numbers.now c.args.kind.now = record { passed = admitted_fine _ _ c.in_default.is c.admit-admission.ensures; known = admitted_established _ _ c.in_default.is c.admit-admission.ensures; five = omega (arith, c.if-kind-ne5.false); read = taken_fine _ _ _ (sym c.read-reading.ensures.result_value ∙ ap reading_verdict c.in_default-reading.is) (c.taken_of-taken.ensures ∙ c.read-reading.ensures.result_value_2); } in judged_document _ _ _ let-in _ c.prepare-prepared.ensures.contract c.judge_prepared.ensures
+    let let-in : LetIn handed c.taken_of-taken.result c.args.numbers.now c.args.kind.now = record { passed = admitted_fine _ _ c.in_default.is c.admit-admission.ensures; known = admitted_established _ _ c.in_default.is c.admit-admission.ensures; five = omega (arith, c.if-kind-ne5.false); read = taken_fine _ _ _ (sym c.read-reading.ensures.result_value ∙ ap reading_verdict c.in_default-reading.is) (c.taken_of-taken.ensures ∙ c.read-reading.ensures.result_value_2) } in judged_document _ _ _ let-in _ c.prepare-prepared.ensures.contract c.judge_prepared.ensures
 
 pub prepare-prepared-requires-2 : goal.prepare-prepared-requires-2
 prepare-prepared-requires-2 c =
     let handed : Contract = let a = c.args in contract a.symbols a.input_states a.output_states a.counts.now a.input_rows.now a.input_marks.now a.output_table.now a.output_marks.now a.nodes.now a.rules.now in
-    let let-in : LetIn handed c.taken_of-taken.result c.args.numbers.now c.args.kind.now = record { passed = admitted_fine _ _ c.in_default.is c.admit-admission.ensures; known = admitted_established _ _ c.in_default.is c.admit-admission.ensures; five = omega (arith, c.if-kind-ne5.false); read = taken_fine _ _ _ (sym c.read-reading.ensures.result_value ∙ ap reading_verdict c.in_default-reading.is) (c.taken_of-taken.ensures ∙ c.read-reading.ensures.result_value_2); } in let known = let-in.known in (known, omega (arith, room_enough _ known), omega arith)
+    let let-in : LetIn handed c.taken_of-taken.result c.args.numbers.now c.args.kind.now = record { passed = admitted_fine _ _ c.in_default.is c.admit-admission.ensures; known = admitted_established _ _ c.in_default.is c.admit-admission.ensures; five = omega (arith, c.if-kind-ne5.false); read = taken_fine _ _ _ (sym c.read-reading.ensures.result_value ∙ ap reading_verdict c.in_default-reading.is) (c.taken_of-taken.ensures ∙ c.read-reading.ensures.result_value_2) } in let known = let-in.known in (known, omega (arith, room_enough _ known), omega arith)
 
 pub slice_bounds-judge_prepared-end-3 : goal.slice_bounds-judge_prepared-end-3
 slice_bounds-judge_prepared-end-3 c =
     let handed : Contract = let a = c.args in contract a.symbols a.input_states a.output_states a.counts.now a.input_rows.now a.input_marks.now a.output_table.now a.output_marks.now a.nodes.now a.rules.now in
-    let let-in : LetIn handed c.taken_of-taken.result c.args.numbers.now c.args.kind.now = record { passed = admitted_fine _ _ c.in_default.is c.admit-admission.ensures; known = admitted_established _ _ c.in_default.is c.admit-admission.ensures; five = omega (arith, c.if-kind-ne5.false); read = taken_fine _ _ _ (sym c.read-reading.ensures.result_value ∙ ap reading_verdict c.in_default-reading.is) (c.taken_of-taken.ensures ∙ c.read-reading.ensures.result_value_2); } in sym (all_taken let-in.read)
+    let let-in : LetIn handed c.taken_of-taken.result c.args.numbers.now c.args.kind.now = record { passed = admitted_fine _ _ c.in_default.is c.admit-admission.ensures; known = admitted_established _ _ c.in_default.is c.admit-admission.ensures; five = omega (arith, c.if-kind-ne5.false); read = taken_fine _ _ _ (sym c.read-reading.ensures.result_value ∙ ap reading_verdict c.in_default-reading.is) (c.taken_of-taken.ensures ∙ c.read-reading.ensures.result_value_2) } in sym (all_taken let-in.read)
 
 pub judge_prepared-requires-2 : goal.judge_prepared-requires-2
 judge_prepared-requires-2 c =
     let handed : Contract = let a = c.args in contract a.symbols a.input_states a.output_states a.counts.now a.input_rows.now a.input_marks.now a.output_table.now a.output_marks.now a.nodes.now a.rules.now in
-    let let-in : LetIn handed c.taken_of-taken.result c.args.numbers.now c.args.kind.now = record { passed = admitted_fine _ _ c.in_default.is c.admit-admission.ensures; known = admitted_established _ _ c.in_default.is c.admit-admission.ensures; five = omega (arith, c.if-kind-ne5.false); read = taken_fine _ _ _ (sym c.read-reading.ensures.result_value ∙ ap reading_verdict c.in_default-reading.is) (c.taken_of-taken.ensures ∙ c.read-reading.ensures.result_value_2); } in
+    let let-in : LetIn handed c.taken_of-taken.result c.args.numbers.now c.args.kind.now = record { passed = admitted_fine _ _ c.in_default.is c.admit-admission.ensures; known = admitted_established _ _ c.in_default.is c.admit-admission.ensures; five = omega (arith, c.if-kind-ne5.false); read = taken_fine _ _ _ (sym c.read-reading.ensures.result_value ∙ ap reading_verdict c.in_default-reading.is) (c.taken_of-taken.ensures ∙ c.read-reading.ensures.result_value_2) } in
     let made = c.prepare-prepared-2.ensures in
     let past = let-in in
     (made.ready, document_in past.read _ made.contract, past.five)
@@ -72,4 +72,4 @@ judge_prepared-requires-2 c =
 pub returns : goal.returns
 returns c =
     let handed : Contract = let a = c.args in contract a.symbols a.input_states a.output_states a.counts.now a.input_rows.now a.input_marks.now a.output_table.now a.output_marks.now a.nodes.now a.rules.now in
-    let let-in : LetIn handed c.taken_of-taken.result c.args.numbers.now c.args.kind.now = record { passed = admitted_fine _ _ c.in_default.is c.admit-admission.ensures; known = admitted_established _ _ c.in_default.is c.admit-admission.ensures; five = omega (arith, c.if-kind-ne5.false); read = taken_fine _ _ _ (sym c.read-reading.ensures.result_value ∙ ap reading_verdict c.in_default-reading.is) (c.taken_of-taken.ensures ∙ c.read-reading.ensures.result_value_2); } in judged_document _ _ _ let-in _ c.prepare-prepared-2.ensures.contract c.judge_prepared-2.ensures
+    let let-in : LetIn handed c.taken_of-taken.result c.args.numbers.now c.args.kind.now = record { passed = admitted_fine _ _ c.in_default.is c.admit-admission.ensures; known = admitted_established _ _ c.in_default.is c.admit-admission.ensures; five = omega (arith, c.if-kind-ne5.false); read = taken_fine _ _ _ (sym c.read-reading.ensures.result_value ∙ ap reading_verdict c.in_default-reading.is) (c.taken_of-taken.ensures ∙ c.read-reading.ensures.result_value_2) } in judged_document _ _ _ let-in _ c.prepare-prepared-2.ensures.contract c.judge_prepared-2.ensures

@@ -11,26 +11,26 @@ use Rattle.merging.proofs.merge.Goals as goal
 -- What the tests tell is refused, with nothing written; behind them both buffers are filled, and what stands in them is the merged type.
 pub returns-in-Failed : goal.returns-in-Failed
 returns-in-Failed c =
-    let handed : Handed = let a = c.args in record { symbols = a.symbols; first = type_of a.states a.table.now a.marks.now; second_symbols = a.second_symbols; second = type_of a.second_states a.second_table.now a.second_marks.now; table_buffer = a.merged_table.now; marks_buffer = a.merged_marks.now; } in types_failed handed _ _ (sym (ap test_verdict c.in-Failed.is) ∙ c.test_types-types.ensures)
+    let handed : Handed = let a = c.args in record { symbols = a.symbols; first = type_of a.states a.table.now a.marks.now; second_symbols = a.second_symbols; second = type_of a.second_states a.second_table.now a.second_marks.now; table_buffer = a.merged_table.now; marks_buffer = a.merged_marks.now } in types_failed handed _ _ (sym (ap test_verdict c.in-Failed.is) ∙ c.test_types-types.ensures)
 
 pub overflow_mul-merged : goal.overflow_mul-merged
 overflow_mul-merged c =
-    let handed : Handed = let a = c.args in record { symbols = a.symbols; first = type_of a.states a.table.now a.marks.now; second_symbols = a.second_symbols; second = type_of a.second_states a.second_table.now a.second_marks.now; table_buffer = a.merged_table.now; marks_buffer = a.merged_marks.now; } in
+    let handed : Handed = let a = c.args in record { symbols = a.symbols; first = type_of a.states a.table.now a.marks.now; second_symbols = a.second_symbols; second = type_of a.second_states a.second_table.now a.second_marks.now; table_buffer = a.merged_table.now; marks_buffer = a.merged_marks.now } in
     let passed : fine ≡ of_types handed = sym (ap test_verdict c.in_default.is) ∙ c.test_types-types.ensures in omega (arith, few_states handed passed)
 
 pub test_result-room-requires : goal.test_result-room-requires
 test_result-room-requires c =
-    let handed : Handed = let a = c.args in record { symbols = a.symbols; first = type_of a.states a.table.now a.marks.now; second_symbols = a.second_symbols; second = type_of a.second_states a.second_table.now a.second_marks.now; table_buffer = a.merged_table.now; marks_buffer = a.merged_marks.now; } in
+    let handed : Handed = let a = c.args in record { symbols = a.symbols; first = type_of a.states a.table.now a.marks.now; second_symbols = a.second_symbols; second = type_of a.second_states a.second_table.now a.second_marks.now; table_buffer = a.merged_table.now; marks_buffer = a.merged_marks.now } in
     let passed : fine ≡ of_types handed = sym (ap test_verdict c.in_default.is) ∙ c.test_types-types.ensures in (types_known handed passed).0.symbols
 
 pub returns-in-Failed-room : goal.returns-in-Failed-room
 returns-in-Failed-room c =
-    let handed : Handed = let a = c.args in record { symbols = a.symbols; first = type_of a.states a.table.now a.marks.now; second_symbols = a.second_symbols; second = type_of a.second_states a.second_table.now a.second_marks.now; table_buffer = a.merged_table.now; marks_buffer = a.merged_marks.now; } in
+    let handed : Handed = let a = c.args in record { symbols = a.symbols; first = type_of a.states a.table.now a.marks.now; second_symbols = a.second_symbols; second = type_of a.second_states a.second_table.now a.second_marks.now; table_buffer = a.merged_table.now; marks_buffer = a.merged_marks.now } in
     let passed : fine ≡ of_types handed = sym (ap test_verdict c.in_default.is) ∙ c.test_types-types.ensures in result_failed handed passed _ _ (sym (ap test_verdict c.in-Failed-room.is) ∙ c.test_result-room.ensures)
 
 pub fill_table-requires : goal.fill_table-requires
 fill_table-requires c =
-    let handed : Handed = let a = c.args in record { symbols = a.symbols; first = type_of a.states a.table.now a.marks.now; second_symbols = a.second_symbols; second = type_of a.second_states a.second_table.now a.second_marks.now; table_buffer = a.merged_table.now; marks_buffer = a.merged_marks.now; } in
+    let handed : Handed = let a = c.args in record { symbols = a.symbols; first = type_of a.states a.table.now a.marks.now; second_symbols = a.second_symbols; second = type_of a.second_states a.second_table.now a.second_marks.now; table_buffer = a.merged_table.now; marks_buffer = a.merged_marks.now } in
     let passed : fine ≡ of_types handed = sym (ap test_verdict c.in_default.is) ∙ c.test_types-types.ensures in
     let fits : fine ≡ of_result handed = sym (ap test_verdict c.in_default-room.is) ∙ c.test_result-room.ensures in
     let h = handed in
@@ -41,7 +41,7 @@ fill_table-requires c =
 
 pub fill_marks-requires : goal.fill_marks-requires
 fill_marks-requires c =
-    let handed : Handed = let a = c.args in record { symbols = a.symbols; first = type_of a.states a.table.now a.marks.now; second_symbols = a.second_symbols; second = type_of a.second_states a.second_table.now a.second_marks.now; table_buffer = a.merged_table.now; marks_buffer = a.merged_marks.now; } in
+    let handed : Handed = let a = c.args in record { symbols = a.symbols; first = type_of a.states a.table.now a.marks.now; second_symbols = a.second_symbols; second = type_of a.second_states a.second_table.now a.second_marks.now; table_buffer = a.merged_table.now; marks_buffer = a.merged_marks.now } in
     let passed : fine ≡ of_types handed = sym (ap test_verdict c.in_default.is) ∙ c.test_types-types.ensures in
     let fits : fine ≡ of_result handed = sym (ap test_verdict c.in_default-room.is) ∙ c.test_result-room.ensures in
     let h = handed in
@@ -53,7 +53,7 @@ fill_marks-requires c =
 
 pub returns : goal.returns
 returns c =
-    let handed : Handed = let a = c.args in record { symbols = a.symbols; first = type_of a.states a.table.now a.marks.now; second_symbols = a.second_symbols; second = type_of a.second_states a.second_table.now a.second_marks.now; table_buffer = a.merged_table.now; marks_buffer = a.merged_marks.now; } in
+    let handed : Handed = let a = c.args in record { symbols = a.symbols; first = type_of a.states a.table.now a.marks.now; second_symbols = a.second_symbols; second = type_of a.second_states a.second_table.now a.second_marks.now; table_buffer = a.merged_table.now; marks_buffer = a.merged_marks.now } in
     let passed : fine ≡ of_types handed = sym (ap test_verdict c.in_default.is) ∙ c.test_types-types.ensures in
     let fits : fine ≡ of_result handed = sym (ap test_verdict c.in_default-room.is) ∙ c.test_result-room.ensures in
     both_written handed passed fits _ _ c.fill_table.ensures c.fill_marks.ensures

@@ -24,14 +24,14 @@ returns-then-marks-states c = λ number. sym (marks_fault _ _ number (sym c.is_o
 pub first_bad_entry-entry-requires : goal.first_bad_entry-entry-requires
 first_bad_entry-entry-requires c =
     let handed : OutputType = let args = c.args in type_of args.states args.table.now args.marks.now in
-    let shaped : Shaped c.args.symbols handed = record { symbols = sym c.is_outside.ensures ∙ c.if-is_outside.false; states = sym c.is_outside-2.ensures ∙ c.if-is_outside-2.false; table_long = omega arith; marks_long = omega arith; } in few_entries _ handed shaped
+    let shaped : Shaped c.args.symbols handed = record { symbols = sym c.is_outside.ensures ∙ c.if-is_outside.false; states = sym c.is_outside-2.ensures ∙ c.if-is_outside-2.false; table_long = omega arith; marks_long = omega arith } in few_entries _ handed shaped
 
 pub returns-then-entry-table : goal.returns-then-entry-table
 returns-then-entry-table c =
     let handed : OutputType = let args = c.args in type_of args.states args.table.now args.marks.now in
-    let shaped : Shaped c.args.symbols handed = record { symbols = sym c.is_outside.ensures ∙ c.if-is_outside.false; states = sym c.is_outside-2.ensures ∙ c.if-is_outside-2.false; table_long = omega arith; marks_long = omega arith; } in λ number. sym (entry_fault _ handed number shaped _ (behind_nothing handed _ c.first_bad_entry-entry.ensures) (omega arith))
+    let shaped : Shaped c.args.symbols handed = record { symbols = sym c.is_outside.ensures ∙ c.if-is_outside.false; states = sym c.is_outside-2.ensures ∙ c.if-is_outside-2.false; table_long = omega arith; marks_long = omega arith } in λ number. sym (entry_fault _ handed number shaped _ (behind_nothing handed _ c.first_bad_entry-entry.ensures) (omega arith))
 
 pub returns : goal.returns
 returns c =
     let handed : OutputType = let args = c.args in type_of args.states args.table.now args.marks.now in
-    let shaped : Shaped c.args.symbols handed = record { symbols = sym c.is_outside.ensures ∙ c.if-is_outside.false; states = sym c.is_outside-2.ensures ∙ c.if-is_outside-2.false; table_long = omega arith; marks_long = omega arith; } in λ number. sym (no_fault _ handed number shaped _ (behind_nothing handed _ c.first_bad_entry-entry.ensures) (omega arith))
+    let shaped : Shaped c.args.symbols handed = record { symbols = sym c.is_outside.ensures ∙ c.if-is_outside.false; states = sym c.is_outside-2.ensures ∙ c.if-is_outside-2.false; table_long = omega arith; marks_long = omega arith } in λ number. sym (no_fault _ handed number shaped _ (behind_nothing handed _ c.first_bad_entry-entry.ensures) (omega arith))
