@@ -1,5 +1,5 @@
 -- The counts of an admitted contract are small enough for its layout and its offsets.
-use Rattle.std.specs.Prelude.{ℕ, ◌<◌, ◌≤◌, length}
+use Rattle.std.specs.Prelude.{ℕ, ◌<◌, length}
 use Rattle.model.specs.Tables.{Contract}
 use Rattle.model.specs.Admission.{most_facts}
 use Rattle.model.specs.Facts.{offset}

@@ -9,7 +9,7 @@ use lib.Dec.{eqb, ltb}
 use lib.ListN.{length}
 use Rattle.foundation.specs.Search.{first}
 use Rattle.model.specs.Tables.{OutputType}
-use Rattle.model.specs.Answers.{fine, refused, refuse_if, ◌then◌}
+use Rattle.model.specs.Answers.{fine, refused, refuse_if}
 use Rattle.model.specs.Admission.{outside, table_length, entry_wrong}
 use Rattle.model.proofs.Laws.Answers.{then_passed, then_refused, refuse_if_passed, refuse_if_refused}
 use Rattle.model.proofs.Laws.Tests.{inside}

@@ -1,10 +1,10 @@
 -- What was written reads back to the same tree.
-use Rattle.std.specs.Prelude.{◌≡◌, refl, List, ◌++◌, ℕ, ◌+◌, ◌≤◌, ◌<◌, length, drop}
+use Rattle.std.specs.Prelude.{◌≡◌, refl, List, ◌++◌, ℕ, ◌≤◌, ◌<◌, length, drop}
 use Rattle.std.proofs.Common.{arith, ltb-false, leb-false}
 use Rattle.foundation.specs.Search.{first_clear}
 use Rattle.model.specs.Documents.{ends, leading, tree_of, document_tree}
 use Rattle.model.specs.Rows.{row_count, tree_at}
-use Rattle.model.specs.Answers.{Verdict, fine, refused, refuse_first, ◌then◌, written, given}
+use Rattle.model.specs.Answers.{Verdict, fine, refused, refuse_first, written, given}
 use Rattle.model.specs.WritingOut.{writing_verdict, writing_out}
 use Rattle.model.proofs.Laws.Answers.{refuse_if_fine, then_fine}
 use Rattle.model.proofs.Laws.Documents.{over_proper, leading-tree, leading_read, read_back}

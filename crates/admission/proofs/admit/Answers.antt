@@ -1,7 +1,6 @@
 -- `admit`: admission is its three stages one after another (`stages`), so a stage that refuses gives the answer, and one that
 -- admits establishes what the next one asks.
 use mathlib.Core.Path.{sym, ◌∙◌}
-use borrow.Author.Rules.{rules}
 use Rattle.answers.proofs.Answered.{answer_passed, part_passed, part_stopped}
 use Rattle.admission.proofs.Order.{stages, few_entries, few_procedures, small-counts, few-nodes}
 use Rattle.admission.proofs.admit.Goals as goal

@@ -1,6 +1,5 @@
 -- `admit_shape`: a search that ends before its last place refuses, one that does not is fine; each answer is that of the first
 -- part that refuses. The sizes that are fine bound the length of the output table.
-use borrow.Author.Rules.{rules}
 use Rattle.model.proofs.Laws.Admitted.{good_sizes}
 use Rattle.model.proofs.Laws.Answers.{refuse_first_at, refuse_first_none}
 use Rattle.admission.specs.Stages.{shape}

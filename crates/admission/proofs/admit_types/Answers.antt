@@ -1,7 +1,5 @@
 -- `admit_types`: a search that ends before its last place refuses, one that does not is fine; each answer is that of the first
 -- part that refuses.
-use native.Mathlib.Omega.{arith}
-use borrow.Author.Rules.{rules}
 use Rattle.model.specs.Admission.{input_rows, entries, counts}
 use Rattle.model.proofs.Laws.Answers.{refuse_first_at, refuse_first_none}
 use Rattle.admission.specs.Stages.{types}

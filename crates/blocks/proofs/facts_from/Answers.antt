@@ -1,7 +1,5 @@
 -- Straight line: every index and shift is in range, and the result is the definition.
 use mathlib.Core.Path.{refl}
-use Prim.Native.Nat.{◌-◌}
-use borrow.Author.Rules.{rules}
 use Rattle.kind_words.specs.Blocks.{facts_from}
 use Rattle.blocks.proofs.facts_from.Goals as goal
 

@@ -1,10 +1,9 @@
 -- Invariant: the first bits are taken, each a step further up. Measure: the bits left.
-use mathlib.Core.Path.{◌≡◌, ◌∙◌}
-use Prim.Native.Nat.{◌+◌, ◌*◌, ◌-◌, ◌/◌, ◌^◌, ◌≤◌, ◌<◌}
+use mathlib.Core.Path.{◌∙◌}
+use Prim.Native.Nat.{◌/◌, ◌^◌, ◌<◌}
 use native.Mathlib.Omega.{arith}
 use Rattle.foundation.specs.Bits.{or_more, or_none}
-use Rattle.kind_words.specs.Blocks.{narrowed_lane, one_at}
-use Rattle.lanes.proofs.Room.{row_room}
+use Rattle.kind_words.specs.Blocks.{one_at}
 use Rattle.blocks.proofs.narrow_lane.Goals as goal
 
 pub loop-to-init : goal.loop-to-init

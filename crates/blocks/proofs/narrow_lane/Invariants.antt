@@ -1,10 +1,7 @@
 -- Invariant: the first bits are taken, each a step further up. Measure: the bits left.
-use mathlib.Core.Path.{◌≡◌, ◌∙◌}
-use Prim.Native.Nat.{◌+◌, ◌*◌, ◌-◌, ◌/◌, ◌^◌, ◌≤◌, ◌<◌}
-use native.Mathlib.Omega.{arith}
-use Rattle.foundation.specs.Bits.{or_more, or_none}
-use Rattle.kind_words.specs.Blocks.{narrowed_lane, one_at}
-use Rattle.lanes.proofs.Room.{row_room}
+use mathlib.Core.Path.{◌≡◌}
+use Prim.Native.Nat.{◌+◌, ◌*◌, ◌-◌, ◌≤◌}
+use Rattle.kind_words.specs.Blocks.{narrowed_lane}
 use Rattle.blocks.proofs.narrow_lane.Given as goal
 
 abbrev pub invariant-loop-to : goal.invariant-loop-to

@@ -1,12 +1,12 @@
 -- Invariant: the first q lanes are narrowed. Measure: the lanes left.
 use mathlib.Core.Path.{◌≡◌, ◌∙◌}
-use Prim.Native.Nat.{ℕ, ◌*◌, ◌-◌, ◌^◌, ◌≤◌, ◌<◌}
+use Prim.Native.Nat.{◌^◌, ◌<◌}
 use native.Mathlib.Omega.{arith}
 use borrow.Author.Tests.{eq-eqb, ne_eqb}
-use Rattle.foundation.specs.Bits.{or_to, or_more, or_none}
+use Rattle.foundation.specs.Bits.{or_more, or_none}
 use Rattle.kind_words.specs.Lanes.{Sized}
-use Rattle.kind_words.specs.Blocks.{narrowed_lane, narrowed, narrowed_lane_lt}
-use Rattle.lanes.proofs.Room.{room, put_fits, thin}
+use Rattle.kind_words.specs.Blocks.{narrowed, narrowed_lane_lt}
+use Rattle.lanes.proofs.Room.{put_fits, thin}
 use Rattle.blocks.proofs.narrow_word.Goals as goal
 
 pub returns-then-narrow-width : goal.returns-then-narrow-width

@@ -1,12 +1,11 @@
 -- Invariant: the first q lanes are widened. Measure: the lanes left.
 use mathlib.Core.Path.{◌≡◌, ◌∙◌}
-use Prim.Native.Nat.{ℕ, ◌*◌, ◌-◌, ◌/◌, ◌^◌, ◌≤◌, ◌<◌}
+use Prim.Native.Nat.{◌^◌, ◌<◌}
 use native.Mathlib.Omega.{arith}
-use lib.Bits.{bit_and}
 use borrow.Author.Tests.{eq-eqb, ne_eqb}
-use Rattle.foundation.specs.Bits.{or_to, or_more, or_none}
+use Rattle.foundation.specs.Bits.{or_more, or_none}
 use Rattle.kind_words.specs.Blocks.{widened}
-use Rattle.lanes.proofs.Room.{room, put_fits, thin, thin_lt}
+use Rattle.lanes.proofs.Room.{put_fits, thin_lt}
 use Rattle.blocks.proofs.widen.Goals as goal
 
 pub returns-then-narrow-width : goal.returns-then-narrow-width

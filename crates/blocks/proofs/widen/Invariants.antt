@@ -1,12 +1,8 @@
 -- Invariant: the first q lanes are widened. Measure: the lanes left.
-use mathlib.Core.Path.{◌≡◌, ◌∙◌}
-use Prim.Native.Nat.{ℕ, ◌*◌, ◌-◌, ◌/◌, ◌^◌, ◌≤◌, ◌<◌}
-use native.Mathlib.Omega.{arith}
+use mathlib.Core.Path.{◌≡◌}
+use Prim.Native.Nat.{ℕ, ◌*◌, ◌-◌, ◌/◌, ◌^◌, ◌≤◌}
 use lib.Bits.{bit_and}
-use borrow.Author.Tests.{eq-eqb, ne_eqb}
-use Rattle.foundation.specs.Bits.{or_to, or_more, or_none}
-use Rattle.kind_words.specs.Blocks.{widened}
-use Rattle.lanes.proofs.Room.{room, put_fits, thin, thin_lt}
+use Rattle.foundation.specs.Bits.{or_to}
 use Rattle.blocks.proofs.widen.Given as goal
 
 abbrev pub invariant-loop-q : goal.invariant-loop-q

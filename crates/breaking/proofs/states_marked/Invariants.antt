@@ -1,12 +1,10 @@
 -- Invariant: the word of the marked states below q. Measure: the states left.
 use mathlib.Core.Path.{◌≡◌}
 use Prim.Native.Nat.{ℕ, ◌-◌, ◌≤◌}
-use native.Mathlib.Omega.{arith}
 use lib.ListN.{length}
 use Rattle.foundation.specs.Words.{word}
 use Rattle.foundation.specs.Tests.{same}
 use Rattle.model.specs.Tables.{mark_at}
-use Rattle.breaking.proofs.MarkWords.{word_none, word_more, word_small, same_test}
 use Rattle.breaking.proofs.states_marked.Given as goal
 
 abbrev pub invariant-loop-q : goal.invariant-loop-q

@@ -1,11 +1,10 @@
 -- Invariant: the input rows from r on are in chains. Measure: r.
-use mathlib.Core.Path.{◌≡◌, refl, ap, subst, sym, ◌∙◌}
-use Prim.Native.Nat.{ℕ, ◌+◌, ◌-◌, ◌/◌, ◌≤◌}
+use mathlib.Core.Path.{◌≡◌, ap, subst, sym}
+use Prim.Native.Nat.{ℕ, ◌+◌, ◌-◌}
 use native.Mathlib.Omega.{arith}
-use lib.ListN.{length}
 use Rattle.model.specs.Tables
 use Rattle.kind_words.specs.Sizes.{first_rows}
-use Rattle.chains.specs.Chaining.{Chaining, chaining_none, chaining_more, chaining_all}
+use Rattle.chains.specs.Chaining.{Chaining, chaining_more}
 use Rattle.chains.proofs.chain_rows.Goals as goal
 
 pub loop-r-preserved : goal.loop-r-preserved

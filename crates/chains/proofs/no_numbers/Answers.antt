@@ -1,9 +1,6 @@
 -- Invariant: the first number of the symbols below s is n. Measure: the symbols left.
-use mathlib.Core.Path.{◌≡◌, subst}
-use Prim.Native.Nat.{ℕ, ◌-◌, ◌≤◌}
 use native.Mathlib.Omega.{arith}
-use Rattle.kind_words.specs.Sizes.{rule_symbols}
-use Rattle.chains.specs.Chaining.{Emptied, emptied_none, emptied_more}
+use Rattle.chains.specs.Chaining.{emptied_more}
 use Rattle.chains.proofs.no_numbers.Goals as goal
 
 pub loop-s-preserved : goal.loop-s-preserved

@@ -1,9 +1,7 @@
 -- Invariant: the first number of the symbols below s is n. Measure: the symbols left.
-use mathlib.Core.Path.{◌≡◌, subst}
-use Prim.Native.Nat.{ℕ, ◌-◌, ◌≤◌}
-use native.Mathlib.Omega.{arith}
+use Prim.Native.Nat.{◌-◌, ◌≤◌}
 use Rattle.kind_words.specs.Sizes.{rule_symbols}
-use Rattle.chains.specs.Chaining.{Emptied, emptied_none, emptied_more}
+use Rattle.chains.specs.Chaining.{Emptied}
 use Rattle.chains.proofs.no_numbers.Given as goal
 
 abbrev pub invariant-loop-s : goal.invariant-loop-s

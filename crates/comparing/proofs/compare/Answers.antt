@@ -1,7 +1,6 @@
 -- What is read of each buffer decides, in the order of the tests.
 use mathlib.Core.Path.{◌≡◌, ap, sym, ◌∙◌}
 use mathlib.Core.Bool.{false}
-use borrow.Author.Rules.{rules}
 use Rattle.model.specs.Answers.{fine}
 use Rattle.model.specs.Admission.{outside}
 use Rattle.model.specs.Documents.{leading_verdict}

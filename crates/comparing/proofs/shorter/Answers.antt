@@ -2,8 +2,7 @@
 use mathlib.Core.Path.{sym}
 use native.Mathlib.Omega.{arith}
 use lib.Seq.{length-take-le}
-use borrow.Author.Rules.{rules}
-use Rattle.comparing.proofs.Comparisons.{there, handed}
+use Rattle.comparing.proofs.Comparisons.{there}
 use Rattle.comparing.proofs.shorter.Goals as goal
 
 -- The stretch that comparing tells is taken out of its buffer, where it is.

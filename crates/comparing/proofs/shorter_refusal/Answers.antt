@@ -1,6 +1,5 @@
 -- What comparing refuses is told.
 use mathlib.Core.Path.{ap, sym, ◌∙◌}
-use borrow.Author.Rules.{rules}
 use Rattle.comparing.specs.Answers.{verdict_of}
 use Rattle.comparing.proofs.shorter_refusal.Goals as goal
 

@@ -1,5 +1,4 @@
 -- The range is that of a contract's symbols.
-use borrow.Author.Rules.{rules}
 use Rattle.comparing.proofs.symbols_wrong.Goals as goal
 
 -- The range is that of a contract's symbols.

@@ -1,7 +1,5 @@
 -- Where the trees end and the kinds of all places are filled in; the first place has the kind of the whole tree.
 use mathlib.Core.Path.{◌∙◌}
-use native.Mathlib.Omega.{arith}
-use borrow.Author.Rules.{rules}
 use Rattle.document_kinds.specs.Stored.{stored_first}
 use Rattle.document_kinds.proofs.document_kind.Goals as goal
 

@@ -1,10 +1,9 @@
 -- Invariant: the kinds of the places from i on are kept. Measure: i.
-use mathlib.Core.Path.{◌≡◌, refl, ◌∙◌}
-use Prim.Native.Nat.{suc, ◌+◌, ◌-◌, ◌≤◌}
-use native.Mathlib.Omega.{arith}
+use mathlib.Core.Path.{◌≡◌}
+use Prim.Native.Nat.{◌≤◌}
 use lib.ListN.{length}
 use Rattle.prepared.specs.Parts.{contract_in}
-use Rattle.document_kinds.specs.Stored.{StoredFrom, stored_none, stored_more}
+use Rattle.document_kinds.specs.Stored.{StoredFrom}
 use Rattle.document_kinds.proofs.fill_kinds.Given as goal
 
 abbrev pub invariant-loop-i : goal.invariant-loop-i

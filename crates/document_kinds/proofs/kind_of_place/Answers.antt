@@ -1,7 +1,6 @@
 -- At symbol 0 stands the empty forest; at another place its children's kinds are joined.
 use mathlib.Core.Path.{◌∙◌}
 use native.Mathlib.Omega.{arith}
-use borrow.Author.Rules.{rules}
 use Rattle.model.proofs.Laws.Documents.{leaf_place}
 use Rattle.document_kinds.specs.Stored.{kind-words, kind_empty, children}
 use Rattle.document_kinds.proofs.kind_of_place.Goals as goal

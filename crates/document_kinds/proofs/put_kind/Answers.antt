@@ -1,8 +1,5 @@
 -- Six stores, one after another, are the definition; each is below the length, which stores do not change.
 use native.Mathlib.Nat.{add-zero}
-use native.Mathlib.Omega.{arith}
-use lib.ListN.{length-set}
-use borrow.Author.Rules.{rules}
 use Rattle.document_kinds.specs.Stored.{put_words}
 use Rattle.document_kinds.proofs.put_kind.Goals as goal
 

@@ -1,12 +1,9 @@
 -- Round by round; a round that adds nothing closes the kind, and so do as many rounds as there may be facts.
-use mathlib.Core.Path.{◌≡◌, sym, ◌∙◌}
+use mathlib.Core.Path.{◌≡◌}
 use Prim.Native.Nat.{◌-◌, ◌≤◌}
-use native.Mathlib.Omega.{arith}
-use borrow.Author.Rules.{rules}
 use Rattle.model.specs.Admission.{most_facts}
-use Rattle.kind_words.specs.Closing.{rounds_on, no_rounds, one_round_more, rounds_fit, rounds_close}
+use Rattle.kind_words.specs.Closing.{rounds_on}
 use Rattle.prepared.specs.Parts.{contract_in}
-use Rattle.kinds.proofs.Rounds.{still_by_test}
 use Rattle.kinds.proofs.closed_kind.Given as goal
 
 abbrev pub invariant-loop-rounds : goal.invariant-loop-rounds

@@ -1,6 +1,5 @@
 -- What the empty forest makes is closed.
 use Rattle.kinds.proofs.Rounds.{leaf_made, empty_closed}
-use borrow.Author.Rules.{rules}
 use Rattle.kinds.proofs.empty_of.Goals as goal
 
 -- What the empty forest makes is closed.

@@ -1,6 +1,5 @@
 -- What the symbol makes is closed.
 use Rattle.kinds.proofs.Rounds.{symbol_made, next_closed}
-use borrow.Author.Rules.{rules}
 use Rattle.kinds.proofs.kind_of.Goals as goal
 
 -- What the symbol makes is closed.

@@ -1,6 +1,5 @@
 -- What the stay rules make of the kind is joined to it.
 use Rattle.kind_words.specs.Closing.{round_steps}
-use borrow.Author.Rules.{rules}
 use Rattle.kinds.proofs.stay_round.Goals as goal
 
 -- What the stay rules make of the kind is joined to it.

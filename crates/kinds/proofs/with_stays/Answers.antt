@@ -1,7 +1,6 @@
 -- Without stay rules a kind is closed as it stands.
 use native.Mathlib.Omega.{arith}
-use Rattle.kinds.proofs.Rounds.{without_stays, with_all_rounds}
-use borrow.Author.Rules.{rules}
+use Rattle.kinds.proofs.Rounds.{without_stays}
 use Rattle.kinds.proofs.with_stays.Goals as goal
 
 -- Without stay rules a kind is closed as it stands.

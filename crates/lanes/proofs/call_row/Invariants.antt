@@ -1,12 +1,9 @@
 -- Invariant: the word has the call over the first y states of the argument. Measure: the states left. A lane times
 -- bits that stand a lane apart fits into the word.
-use mathlib.Core.Path.{◌≡◌, ◌∙◌}
+use mathlib.Core.Path.{◌≡◌}
 use mathlib.Core.List.{[]}
 use Prim.Native.Nat.{◌+◌, ◌*◌, ◌-◌, ◌≤◌}
-use native.Mathlib.Omega.{arith}
-use Rattle.foundation.specs.Bits.{or_more, or_none}
 use Rattle.kind_words.specs.Lanes.{call_states}
-use Rattle.lanes.proofs.Room.{room, under, times_fits}
 use Rattle.lanes.proofs.call_row.Given as goal
 
 abbrev pub invariant-loop-y : goal.invariant-loop-y

@@ -1,11 +1,8 @@
 -- Invariant: the word has the call over the first x states of the first argument. Measure: the states left.
-use mathlib.Core.Path.{◌≡◌, ◌∙◌}
+use mathlib.Core.Path.{◌≡◌}
 use mathlib.Core.List.{[], ◌∷◌}
-use Prim.Native.Nat.{◌+◌, ◌*◌, ◌-◌, ◌≤◌, ◌<◌}
-use native.Mathlib.Omega.{arith}
-use Rattle.foundation.specs.Bits.{or_more, or_none}
+use Prim.Native.Nat.{◌*◌, ◌-◌, ◌≤◌}
 use Rattle.kind_words.specs.Lanes.{call_states}
-use Rattle.lanes.proofs.Room.{room as lane-Room, square, under, ones_less, no_code}
 use Rattle.lanes.proofs.call_two.Given as goal
 
 abbrev pub invariant-loop-x : goal.invariant-loop-x

@@ -1,12 +1,9 @@
 -- Invariant: the word has the symbol over the first y lanes of the second word. Measure: the lanes left. A state below the
 -- count of states leaves room for its lane, which closes the shifts.
-use mathlib.Core.Path.{◌≡◌, ◌∙◌}
-use Prim.Native.Nat.{ℕ, ◌+◌, ◌*◌, ◌-◌, ◌≤◌, ◌<◌}
-use native.Mathlib.Omega.{arith}
+use mathlib.Core.Path.{◌≡◌}
+use Prim.Native.Nat.{ℕ, ◌+◌, ◌*◌, ◌-◌, ◌≤◌}
 use lib.ListN.{get_or}
-use Rattle.foundation.specs.Bits.{or_more, or_none}
 use Rattle.kind_words.specs.Lanes.{symbol_row}
-use Rattle.lanes.proofs.Room.{room, put_fits, under}
 use Rattle.lanes.proofs.symbol_row.Given as goal
 
 abbrev pub invariant-loop-y : goal.invariant-loop-y

@@ -1,11 +1,7 @@
 -- Invariant: the word has the symbol over the first x lanes of the first word. Measure: the lanes left.
-use mathlib.Core.Path.{◌≡◌, ◌∙◌}
-use Prim.Native.Nat.{ℕ, ◌+◌, ◌*◌, ◌-◌, ◌≤◌, ◌<◌}
+use mathlib.Core.Path.{◌∙◌}
 use native.Mathlib.Omega.{arith}
-use lib.ListN.{length, get_or}
 use Rattle.foundation.specs.Bits.{or_more, or_none}
-use Rattle.kind_words.specs.Lanes.{symbol_word}
-use Rattle.lanes.proofs.Room.{room, square, lane_lt}
 use Rattle.lanes.proofs.symbol_word.Goals as goal
 
 pub loop-x-init : goal.loop-x-init

@@ -1,11 +1,8 @@
 -- Invariant: the word has the symbol over the first x lanes of the first word. Measure: the lanes left.
-use mathlib.Core.Path.{◌≡◌, ◌∙◌}
-use Prim.Native.Nat.{ℕ, ◌+◌, ◌*◌, ◌-◌, ◌≤◌, ◌<◌}
-use native.Mathlib.Omega.{arith}
-use lib.ListN.{length, get_or}
-use Rattle.foundation.specs.Bits.{or_more, or_none}
+use mathlib.Core.Path.{◌≡◌}
+use Prim.Native.Nat.{ℕ, ◌+◌, ◌*◌, ◌-◌, ◌≤◌}
+use lib.ListN.{get_or}
 use Rattle.kind_words.specs.Lanes.{symbol_word}
-use Rattle.lanes.proofs.Room.{room, square, lane_lt}
 use Rattle.lanes.proofs.symbol_word.Given as goal
 
 abbrev pub invariant-loop-x : goal.invariant-loop-x

@@ -1,10 +1,7 @@
 -- Invariant: the greatest of the first p counts. Measure: the counts left.
-use mathlib.Core.Path.{◌≡◌}
 use Prim.Native.Nat.{ℕ, ◌-◌, ◌≤◌, ◌<◌}
-use native.Mathlib.Omega.{arith}
 use lib.ListN.{length}
 use Rattle.model.specs.Tables.{count_of}
-use Rattle.layouts.specs.LaneWords.{bound_more, bound_all}
 use Rattle.layouts.proofs.greatest_count.Given as goal
 
 abbrev pub invariant-loop-p : goal.invariant-loop-p

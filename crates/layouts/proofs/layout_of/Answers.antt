@@ -1,9 +1,8 @@
 -- At most four states and two parameters: lanes of at most sixteen bits. What is called gives the words of the layout.
 use mathlib.Core.Path.{◌≡◌, refl, ◌∙◌}
-use Prim.Native.Nat.{◌-◌, ◌^◌, ◌≤◌}
+use Prim.Native.Nat.{◌^◌}
 use native.Mathlib.Omega.{arith}
 use native.Mathlib.Nat.{one-le-pow}
-use borrow.Author.Rules.{rules}
 use Rattle.lanes.proofs.Room.{power_small}
 use Rattle.kind_words.specs.Kind.{lanes_fit}
 use Rattle.layouts.specs.LaneWords.{lanes_are, weight_some}

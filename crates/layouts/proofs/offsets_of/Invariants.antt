@@ -1,10 +1,8 @@
 -- Invariant: the first p offsets stand in the table. Measure: the procedures left.
-use mathlib.Core.Path.{◌≡◌, refl}
+use mathlib.Core.Path.{◌≡◌}
 use Prim.Native.Nat.{ℕ, ◌-◌, ◌≤◌, ◌<◌}
-use native.Mathlib.Omega.{arith}
-use lib.ListN.{length, get_or, length-set}
+use lib.ListN.{length, get_or}
 use Rattle.model.specs.Facts.{offset}
-use Rattle.foundation.specs.Lists.{filled_more}
 use Rattle.kind_words.specs.Sizes.{most_procedures}
 use Rattle.layouts.proofs.offsets_of.Given as goal
 

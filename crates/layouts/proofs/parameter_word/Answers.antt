@@ -1,11 +1,11 @@
 -- Invariant: the word has the parameter's state at each of the first c assignments. Measure: the assignments left.
-use mathlib.Core.Path.{◌≡◌, ◌∙◌}
-use Prim.Native.Nat.{ℕ, ◌*◌, ◌-◌, ◌/◌, ◌%◌, ◌^◌, ◌≤◌, ◌<◌}
+use mathlib.Core.Path.{◌∙◌}
+use Prim.Native.Nat.{◌/◌, ◌%◌, ◌^◌, ◌<◌}
 use native.Mathlib.Nat.{mod-lt}
 use native.Mathlib.Omega.{arith}
-use lib.Pow.{pow_pos, pow-lt}
-use Rattle.foundation.specs.Bits.{or_to, or_none, or_more}
-use Rattle.lanes.proofs.Room.{room, one_up, put_fits}
+use lib.Pow.{pow-lt}
+use Rattle.foundation.specs.Bits.{or_none, or_more}
+use Rattle.lanes.proofs.Room.{put_fits}
 use Rattle.layouts.proofs.parameter_word.Goals as goal
 
 pub loop-c-init : goal.loop-c-init

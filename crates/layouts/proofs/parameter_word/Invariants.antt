@@ -1,11 +1,7 @@
 -- Invariant: the word has the parameter's state at each of the first c assignments. Measure: the assignments left.
-use mathlib.Core.Path.{◌≡◌, ◌∙◌}
-use Prim.Native.Nat.{ℕ, ◌*◌, ◌-◌, ◌/◌, ◌%◌, ◌^◌, ◌≤◌, ◌<◌}
-use native.Mathlib.Nat.{mod-lt}
-use native.Mathlib.Omega.{arith}
-use lib.Pow.{pow_pos, pow-lt}
-use Rattle.foundation.specs.Bits.{or_to, or_none, or_more}
-use Rattle.lanes.proofs.Room.{room, one_up, put_fits}
+use mathlib.Core.Path.{◌≡◌}
+use Prim.Native.Nat.{ℕ, ◌*◌, ◌-◌, ◌/◌, ◌%◌, ◌^◌, ◌≤◌}
+use Rattle.foundation.specs.Bits.{or_to}
 use Rattle.layouts.proofs.parameter_word.Given as goal
 
 abbrev pub invariant-loop-c : goal.invariant-loop-c

@@ -1,9 +1,7 @@
 -- Invariant: the word has the first bit of each of the first q lanes. Measure: the lanes left.
-use mathlib.Core.Path.{◌≡◌, ◌∙◌}
-use Prim.Native.Nat.{ℕ, ◌*◌, ◌-◌, ◌^◌, ◌≤◌, ◌<◌}
+use mathlib.Core.Path.{◌∙◌}
 use native.Mathlib.Omega.{arith}
-use Rattle.foundation.specs.Bits.{or_to, or_none, or_more}
-use Rattle.lanes.proofs.Room.{room, one_up}
+use Rattle.foundation.specs.Bits.{or_none, or_more}
 use Rattle.layouts.proofs.starts_word.Goals as goal
 
 pub loop-q-init : goal.loop-q-init

@@ -1,11 +1,8 @@
 -- Invariant: the mask has the facts that the first i nodes of the list call on the side. Measure: the nodes left.
-use mathlib.Core.Path.{◌≡◌, ap, sym, subst, ◌∙◌}
+use mathlib.Core.Path.{◌≡◌}
 use Prim.Native.Nat.{◌-◌, ◌≤◌}
-use native.Mathlib.Omega.{arith}
 use lib.ListN.{length}
-use Rattle.model.specs.Tables.{Node, node_at}
-use Rattle.kind_words.specs.Listed.{at}
-use Rattle.masks.specs.Calls.{CallFits, with_call, called_to, called_none, called_more}
+use Rattle.masks.specs.Calls.{called_to}
 use Rattle.masks.proofs.facts_called.Given as goal
 
 abbrev pub invariant-loop-i : goal.invariant-loop-i

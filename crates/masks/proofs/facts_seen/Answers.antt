@@ -1,6 +1,4 @@
 -- A prepared contract has a list of nodes for each symbol.
-use mathlib.Core.Path.{◌∙◌}
-use borrow.Author.Rules.{rules}
 use Rattle.masks.specs.Calls.{calls_fit}
 use Rattle.masks.proofs.facts_seen.Goals as goal
 

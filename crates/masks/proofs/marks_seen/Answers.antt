@@ -1,6 +1,5 @@
 -- By the definition, side by side.
 use mathlib.Core.Path.{◌∙◌}
-use borrow.Author.Rules.{rules}
 use Rattle.masks.specs.Seen.{marks_seen}
 use Rattle.masks.proofs.marks_seen.Goals as goal
 

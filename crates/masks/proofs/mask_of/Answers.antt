@@ -1,5 +1,4 @@
 -- The states, the marks and the facts together.
-use borrow.Author.Rules.{rules}
 use Rattle.masks.specs.Calls.{mask_sees}
 use Rattle.masks.proofs.mask_of.Goals as goal
 

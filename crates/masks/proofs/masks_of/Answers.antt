@@ -1,5 +1,4 @@
 -- The two sides together.
-use borrow.Author.Rules.{rules}
 use Rattle.masks.specs.Seen.{covered}
 use Rattle.masks.proofs.masks_of.Goals as goal
 

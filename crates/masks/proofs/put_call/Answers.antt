@@ -2,13 +2,10 @@
 use mathlib.Core.Path.{ap, ap₂, sym, ◌∙◌}
 use mathlib.Core.Bool.{◌&&◌}
 use Prim.Native.Nat.{ℕ}
-use native.Mathlib.Omega.{arith}
-use borrow.Author.Tests.{eqb-true}
 use lib.Dec.{eqb}
 use lib.ListN.{get_or}
 use Rattle.kind_words.specs.Blocks.{with_block}
-use Rattle.masks.specs.Calls.{ones_for, with_call, first-true}
-use borrow.Author.Rules.{rules}
+use Rattle.masks.specs.Calls.{ones_for, with_call}
 use Rattle.masks.proofs.put_call.Goals as goal
 
 -- A node that calls on the side puts its procedure's ones; another node changes nothing.

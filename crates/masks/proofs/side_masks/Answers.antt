@@ -1,12 +1,11 @@
 -- Invariant: the masks of the symbols below s show what those can see, and there are as many words as at entry. Measure: the
 -- symbols left.
-use mathlib.Core.Path.{◌≡◌, refl, sym, subst, ◌∙◌}
+use mathlib.Core.Path.{sym, subst, ◌∙◌}
 use mathlib.Core.List.{List}
-use Prim.Native.Nat.{ℕ, ◌+◌, ◌-◌, ◌≤◌}
+use Prim.Native.Nat.{ℕ, ◌+◌}
 use native.Mathlib.Omega.{arith}
-use lib.ListN.{length}
 use Rattle.prepared.specs.Parts.{contract_in}
-use Rattle.masks.specs.Seen.{AllSee, stored, see_more, see_none}
+use Rattle.masks.specs.Seen.{AllSee, stored, see_more}
 use Rattle.masks.proofs.side_masks.Goals as goal
 
 pub loop-prepared-preserved : goal.loop-prepared-preserved

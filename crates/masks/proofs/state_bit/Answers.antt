@@ -1,10 +1,8 @@
 -- By the definition: the row is one for its own symbol.
 use mathlib.Core.Path.{refl, ap, ◌∙◌}
-use Prim.Native.Nat.{ℕ, ◌*◌, ◌^◌, ◌<◌}
+use Prim.Native.Nat.{ℕ, ◌*◌, ◌^◌}
 use borrow.Author.Tests.{eq-eqb}
-use Rattle.lanes.proofs.Room.{one_up}
 use Rattle.masks.specs.Seen.{state_bit}
-use borrow.Author.Rules.{rules}
 use Rattle.masks.proofs.state_bit.Goals as goal
 
 -- By the definition: the row is one for its own symbol.

@@ -1,12 +1,12 @@
 -- Invariant: a walk along the symbol's chain has come to row k, and the word has the states of the rows before it. Measure: the
 -- rows left.
-use mathlib.Core.Path.{◌≡◌, refl, ap, sym, subst, ◌∙◌}
-use Prim.Native.Nat.{ℕ, ◌-◌, ◌/◌, ◌<◌}
+use mathlib.Core.Path.{◌≡◌, refl, ap, ◌∙◌}
+use Prim.Native.Nat.{ℕ, ◌/◌}
 use native.Mathlib.Omega.{arith}
 use lib.ListN.{length}
-use Rattle.model.specs.Tables.{InputRow, input_row, input_row_count}
-use Rattle.kind_words.specs.Chains.{Walk, walk_starts, walk_goes, walk_less, walk_ends}
-use Rattle.masks.specs.Seen.{state_on, state_bit, states_seen, seen_below, seen_first, seen_next, state_small}
+use Rattle.model.specs.Tables.{InputRow, input_row}
+use Rattle.kind_words.specs.Chains.{walk_starts, walk_goes, walk_ends}
+use Rattle.masks.specs.Seen.{state_bit, states_seen, seen_first, seen_next}
 use Rattle.masks.proofs.states_named.Goals as goal
 
 pub loop-k-init : goal.loop-k-init

@@ -1,12 +1,11 @@
 -- Invariant: a walk along the symbol's chain has come to row k, and the word has the states of the rows before it. Measure: the
 -- rows left.
-use mathlib.Core.Path.{◌≡◌, refl, ap, sym, subst, ◌∙◌}
-use Prim.Native.Nat.{ℕ, ◌-◌, ◌/◌, ◌<◌}
-use native.Mathlib.Omega.{arith}
+use mathlib.Core.Path.{◌≡◌}
+use Prim.Native.Nat.{◌-◌, ◌/◌}
 use lib.ListN.{length}
-use Rattle.model.specs.Tables.{InputRow, input_row, input_row_count}
-use Rattle.kind_words.specs.Chains.{Walk, walk_starts, walk_goes, walk_less, walk_ends}
-use Rattle.masks.specs.Seen.{state_on, state_bit, states_seen, seen_below, seen_first, seen_next, state_small}
+use Rattle.model.specs.Tables.{input_row, input_row_count}
+use Rattle.kind_words.specs.Chains.{Walk}
+use Rattle.masks.specs.Seen.{seen_below}
 use Rattle.masks.proofs.states_named.Given as goal
 
 abbrev pub invariant-loop-k : goal.invariant-loop-k

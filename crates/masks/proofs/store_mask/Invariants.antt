@@ -1,9 +1,8 @@
 -- Invariant: the first i words of the mask are put, for every symbol whose words start there. Measure: the words left.
-use mathlib.Core.Path.{◌≡◌, refl, ◌∙◌}
+use mathlib.Core.Path.{◌≡◌}
 use Prim.Native.Nat.{ℕ, ◌*◌, ◌-◌, ◌≤◌}
-use native.Mathlib.Omega.{arith}
-use lib.ListN.{length, length-set}
-use Rattle.masks.specs.Seen.{stored_to, stored_none, stored_more}
+use lib.ListN.{length}
+use Rattle.masks.specs.Seen.{stored_to}
 use Rattle.masks.proofs.store_mask.Given as goal
 
 abbrev pub invariant-loop-i : goal.invariant-loop-i

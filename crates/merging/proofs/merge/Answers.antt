@@ -1,7 +1,6 @@
 -- What the tests tell is refused, with nothing written; behind them both buffers are filled, and what stands in them is the merged type.
 use mathlib.Core.Path.{◌≡◌, ap, sym, ◌∙◌}
 use native.Mathlib.Omega.{arith}
-use borrow.Author.Rules.{rules}
 use Rattle.model.specs.Tables.{type_of}
 use Rattle.model.specs.Answers.{fine}
 use Rattle.merging_tests.specs.Answers.{test_verdict}

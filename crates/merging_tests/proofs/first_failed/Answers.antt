@@ -1,6 +1,5 @@
 -- Behind a test that passed the second tells; a test that failed tells by itself.
 use mathlib.Core.Path.{ap, sym}
-use borrow.Author.Rules.{rules}
 use Rattle.model.proofs.Laws.Answers.{then_passed, then_refused}
 use Rattle.merging_tests.specs.Answers.{test_verdict}
 use Rattle.merging_tests.proofs.first_failed.Goals as goal

@@ -1,7 +1,6 @@
 -- The tests in their order; behind that of the states the table's length can be computed.
 use mathlib.Core.Path.{sym}
 use native.Mathlib.Omega.{arith}
-use borrow.Author.Rules.{rules}
 use Rattle.merging_tests.proofs.Tests.{too_many, no_table, no-marks, result_fits}
 use Rattle.merging_tests.proofs.test_result.Goals as goal
 

@@ -1,11 +1,10 @@
 -- The tests go by place, so the first that fails has the lowest; behind them a search goes through table and marks.
 use mathlib.Core.Path.{sym, ◌∙◌}
 use native.Mathlib.Omega.{arith}
-use borrow.Author.Rules.{rules}
 use Rattle.model.specs.Tables.{OutputType}
 use Rattle.model.proofs.Laws.Merging.{Shaped, symbols_fault, states_fault, table_fault, marks_fault, entry_fault, no_fault}
 use Rattle.model.specs.Tables.{type_of}
-use Rattle.merging_tests.proofs.Tests.{in_range, few_entries, behind_nothing}
+use Rattle.merging_tests.proofs.Tests.{few_entries, behind_nothing}
 use Rattle.merging_tests.proofs.test_type.Goals as goal
 
 -- The tests go by place, so the first that fails has the lowest; behind them a search goes through table and marks.

@@ -6,7 +6,6 @@ use native.Mathlib.Nat.{not-suc-le-zero}
 use native.Mathlib.Omega.{arith}
 use native.Mathlib.Decide.{ℕ_discrete}
 use borrow.Author.Tests.{eq-eqb, ne_eqb}
-use Rattle.foundation.specs.Tests.{◌or◌}
 use Rattle.model.specs.Tables.{node_at, count_of}
 use Rattle.model.specs.Expressions.{parameter, nothing, symbol, call, Arguments, child_of, arguments_of, expression_of, expression_below, expression}
 

@@ -9,9 +9,8 @@ use borrow.Author.Tests.{ltb-false, le-ltb, eq-eqb}
 use lib.Dec.{eqb, ltb}
 use lib.ListN.{length, drop}
 use lib.Seq.{take_at, drop_at}
-use Rattle.foundation.specs.Search.{first}
 use Rattle.model.specs.Tables.{OutputType}
-use Rattle.model.specs.Answers.{Verdict, fine, refused, ◌then◌}
+use Rattle.model.specs.Answers.{Verdict, fine, refused}
 use Rattle.model.specs.Admission.{table_length}
 use Rattle.model.specs.Refusals.{RefusesFor}
 use Rattle.model.specs.Merging.{pair_count, merged_type, type_wrong, type_places, type_verdict, merged, not_merged, Merged, type_in, IsMerged, buffers_short, merging_verdict, merging, merging_reasons, Mergeable, MergingMeans}

@@ -14,7 +14,6 @@ use lib.ListN.{length, get_or, replicate, length-append, get_or-append, length-m
 use lib.Seq.{get_or-append-add}
 use borrow.Author.Tests.{ltb-true}
 use Rattle.foundation.specs.Tests.{choose}
-use Rattle.foundation.specs.Search.{first}
 use Rattle.foundation.specs.Lists.{zero_filled}
 use Rattle.model.specs.Trees.{Tree, empty, node, root_symbol, preorder}
 use Rattle.model.specs.Tables.{Contract, Transformation, node_at, node_count, rule_at, rule_count, count_of}

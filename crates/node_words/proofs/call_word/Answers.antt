@@ -1,10 +1,6 @@
 -- One answer for each count of parameters; an argument's word is read only where the procedure has that parameter.
-use mathlib.Core.Path.{◌∙◌}
-use Prim.Native.Nat.{◌-◌}
 use native.Mathlib.Omega.{arith}
-use borrow.Author.Rules.{rules}
-use Rattle.kind_words.specs.Nodes.{call_none, call_first, call_both}
-use Rattle.lanes.proofs.Room.{square_small, times_fits, ones_less}
+use Rattle.lanes.proofs.Room.{times_fits, ones_less}
 use Rattle.node_words.proofs.call_word.Goals as goal
 
 -- One answer for each count of parameters; an argument's word is read only where the procedure has that parameter.

@@ -1,11 +1,8 @@
 -- Invariant: the words are those after the first i places of the list. Measure: what is left of the list.
-use mathlib.Core.Path.{◌≡◌, refl, ◌∙◌}
-use mathlib.Core.List.{List}
-use Prim.Native.Nat.{ℕ, ◌-◌, ◌≤◌}
+use mathlib.Core.Path.{refl, ◌∙◌}
 use native.Mathlib.Omega.{arith}
-use lib.ListN.{length, get_or, length-set}
-use Rattle.lanes.specs.Layouts.{layout_of}
-use Rattle.kind_words.specs.Listed.{node_step, filled_to, filled_none, filled_more}
+use lib.ListN.{length-set}
+use Rattle.kind_words.specs.Listed.{filled_none, filled_more}
 use Rattle.node_words.proofs.fill_words.Goals as goal
 
 pub loop-i-init : goal.loop-i-init

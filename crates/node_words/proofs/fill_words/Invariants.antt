@@ -1,11 +1,10 @@
 -- Invariant: the words are those after the first i places of the list. Measure: what is left of the list.
-use mathlib.Core.Path.{◌≡◌, refl, ◌∙◌}
+use mathlib.Core.Path.{◌≡◌}
 use mathlib.Core.List.{List}
 use Prim.Native.Nat.{ℕ, ◌-◌, ◌≤◌}
-use native.Mathlib.Omega.{arith}
-use lib.ListN.{length, get_or, length-set}
+use lib.ListN.{length, get_or}
 use Rattle.lanes.specs.Layouts.{layout_of}
-use Rattle.kind_words.specs.Listed.{node_step, filled_to, filled_none, filled_more}
+use Rattle.kind_words.specs.Listed.{node_step, filled_to}
 use Rattle.node_words.proofs.fill_words.Given as goal
 
 abbrev pub invariant-loop-i : goal.invariant-loop-i

@@ -1,13 +1,10 @@
 -- By the node's tag; what a good node refers to and calls stands in its tables.
 use mathlib.Core.Path.{◌≡◌, ap, sym, ◌∙◌}
-use Prim.Native.Nat.{◌-◌, ◌<◌}
 use native.Mathlib.Omega.{arith}
-use lib.ListN.{length}
-use borrow.Author.Rules.{rules}
 use Rattle.model.specs.Tables
 use Rattle.tables.specs.Tuples.{node_of}
 use Rattle.kind_words.specs.Listed.{step_of, step_parameter, step_output, step_call}
-use Rattle.kind_words.specs.Fits.{is_call, output_fits, output_nodes, called_procedure, call_nodes}
+use Rattle.kind_words.specs.Fits.{is_call, output_fits, output_nodes}
 use Rattle.node_words.proofs.node_word.Goals as goal
 
 -- By the node's tag; what a good node refers to and calls stands in its tables.

@@ -1,10 +1,8 @@
 -- A state's place fits into the word, and a symbol's states stand in the table; a node's word is read only where it is used.
-use mathlib.Core.Path.{◌≡◌, ◌∙◌}
-use Prim.Native.Nat.{◌-◌, ◌<◌}
-use native.Mathlib.Omega.{arith}
-use borrow.Author.Rules.{rules}
-use borrow.Author.Tests.{eq-eqb, ne_eqb}
-use Rattle.lanes.proofs.Room.{put_fits, ones_less, small_prod, square_small}
+use mathlib.Core.Path.{◌∙◌}
+use Prim.Native.Nat.{◌<◌}
+use borrow.Author.Tests.{ne_eqb}
+use Rattle.lanes.proofs.Room.{put_fits, ones_less}
 use Rattle.node_words.proofs.output_word.Goals as goal
 
 -- A state's place fits into the word, and a symbol's states stand in the table; a node's word is read only where it is used.

@@ -1,8 +1,7 @@
 -- A procedure has at most sixteen assignments, so that its lanes fit; what it calls gives the rest.
-use mathlib.Core.Path.{◌≡◌, ◌∙◌}
-use Prim.Native.Nat.{◌-◌, ◌^◌}
+use mathlib.Core.Path.{◌≡◌}
+use Prim.Native.Nat.{◌^◌}
 use native.Mathlib.Omega.{arith}
-use borrow.Author.Rules.{rules}
 use Rattle.lanes.proofs.Room.{power_small, pow_some}
 use Rattle.node_words.proofs.procedure_word.Goals as goal
 

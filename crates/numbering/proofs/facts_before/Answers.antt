@@ -1,9 +1,7 @@
 -- `facts_before`: the sum is the offset of the procedure reached, and at most 64 for each procedure passed; the measure is the
 -- procedures left. One procedure more is the law `offset_more`.
-use mathlib.Core.Path.{◌≡◌, sym}
-use Prim.Native.Nat.{◌*◌, ◌-◌, ◌≤◌}
+use mathlib.Core.Path.{sym}
 use native.Mathlib.Omega.{arith}
-use Rattle.model.specs.Facts.{offset}
 use Rattle.numbering.proofs.Offsets.{offset_zero, offset_more, facts_small}
 use Rattle.numbering.proofs.facts_before.Goals as goal
 

@@ -1,6 +1,5 @@
 -- `power` reads the entry of O and the exponent, which the test over the table makes their power.
 use native.Mathlib.Omega.{arith}
-use borrow.Author.Rules.{rules}
 use Rattle.numbering.proofs.PowerTable.{power_is}
 use Rattle.numbering.proofs.power.Goals as goal
 

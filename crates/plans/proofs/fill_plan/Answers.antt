@@ -1,11 +1,9 @@
 -- `plans::fill_plan` meets its contract: each copy keeps the table's length and what stands below it, and `laid` puts the five and the two
 -- numbers behind them together.
-use mathlib.Core.Path.{◌≡◌, refl, sym}
-use native.Mathlib.Omega.{arith}
+use mathlib.Core.Path.{◌≡◌, refl}
 use lib.ListN.{length}
-use lib.Seq.{length-take-le}
-use Rattle.plans.specs.Plans.{entries, sides_place, nodes_place, numbers_place, plan_length, transformation_of}
-use Rattle.plans.proofs.Laying.{size_written, laid}
+use Rattle.plans.specs.Plans.{entries, transformation_of}
+use Rattle.plans.proofs.Laying.{laid}
 use borrow.Author.Rules.{rules}
 use Rattle.plans.proofs.fill_plan.Goals as goal
 

@@ -1,7 +1,6 @@
 -- `plans::most_calls` meets its contract, by whether the flag is 1.
 use native.Mathlib.Omega.{arith}
 use Rattle.plans.proofs.Limits.{most_flagged, most_not_flagged}
-use borrow.Author.Rules.{rules}
 use Rattle.plans.proofs.most_calls.Goals as goal
 
 -- `plans::most_calls` meets its contract, by whether the flag is 1.

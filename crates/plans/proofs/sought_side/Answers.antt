@@ -1,7 +1,6 @@
 -- `plans::sought_side` meets its contract, by whether the symbol's own right side is a node.
 use mathlib.Core.Path.{ap, sym, ◌∙◌}
 use native.Mathlib.Omega.{arith}
-use borrow.Author.Rules.{rules}
 use Rattle.plans.specs.Plans.{plan_side}
 use Rattle.plans.proofs.Seeking.{own_sought, stay_sought}
 use Rattle.plans.proofs.sought_side.Goals as goal

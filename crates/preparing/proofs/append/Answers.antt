@@ -1,11 +1,10 @@
 use native.Mathlib.Omega.{arith}
-use mathlib.Core.Path.{◌≡◌, refl, ap, ◌∙◌}
-use mathlib.Core.List.{List, ◌++◌}
-use Prim.Native.Nat.{ℕ, ◌+◌, ◌-◌, ◌≤◌}
+use mathlib.Core.Path.{ap, ◌∙◌}
+use mathlib.Core.List.{List}
+use Prim.Native.Nat.{ℕ, ◌+◌}
 use native.Mathlib.Numerals.{add-one}
-use lib.ListN.{length, get_or, set, take, length-set}
-use lib.Seq.{paste, paste-zero, paste-suc, take-paste, take-length}
-use Rattle.preparing.proofs.append.Lts as lts
+use lib.ListN.{get_or, set, length-set}
+use lib.Seq.{paste-suc}
 use Rattle.preparing.proofs.append.Goals as goal
 
 -- src/lib.rt:46:5

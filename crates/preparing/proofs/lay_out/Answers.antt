@@ -1,17 +1,14 @@
 -- The tables are packed, the lists written behind them leave them as they are.
-use mathlib.Core.Path.{◌≡◌, ap, subst, sym, ◌∙◌}
-use mathlib.Core.List.{List}
+use mathlib.Core.Path.{◌≡◌, ap, ◌∙◌}
 use Prim.Native.Nat.{ℕ, ◌-◌, ◌≤◌}
 use native.Mathlib.Omega.{arith}
 use lib.ListN.{length}
 use borrow.Rule.Slice.PartMut.{take_put, same_len_mid, put_mid, mid_of, post_of}
 use Rattle.model.proofs.Laws.Established.{established_nodes}
-use Rattle.kind_words.specs.Sizes.{next_rules}
-use Rattle.kind_words.specs.Kind.{RulesChained}
 use Rattle.layouts.specs.Counts.{small-counts, offsets_inside}
 use Rattle.reaching.specs.Marks.{rules-good, rows_good}
 use Rattle.prepared.specs.Parts.{part}
-use Rattle.preparing.specs.Packing.{rounds_by, short, laid_out, part_put, length_part}
+use Rattle.preparing.specs.Packing.{rounds_by, laid_out, part_put, length_part}
 use Rattle.preparing.proofs.lay_out.Goals as goal
 
 -- The tables are packed, the lists written behind them leave them as they are.

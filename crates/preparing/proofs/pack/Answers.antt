@@ -1,6 +1,5 @@
 -- Each table behind the ones before it.
 use Rattle.preparing.specs.Packing.{packed}
-use borrow.Author.Rules.{rules}
 use Rattle.preparing.proofs.pack.Goals as goal
 
 -- Each table behind the ones before it.

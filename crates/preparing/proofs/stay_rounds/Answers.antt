@@ -1,7 +1,6 @@
 -- There is a stay rule exactly if a search finds one.
 use mathlib.Core.Path.{sym, ◌∙◌}
 use Rattle.kind_words.specs.Chains.{first_chained}
-use borrow.Author.Rules.{rules}
 use Rattle.preparing.proofs.stay_rounds.Goals as goal
 
 -- There is a stay rule exactly if a search finds one.

@@ -1,7 +1,5 @@
 -- The chains of the rules, then those of the input rows, then the lists of nodes; each keeps what was there before it.
-use native.Mathlib.Omega.{arith}
-use borrow.Author.Rules.{rules}
-use Rattle.reaching.specs.Listing.{listed_all, rules_through}
+use Rattle.reaching.specs.Listing.{listed_all}
 use Rattle.reaching.proofs.fill_lists.Goals as goal
 
 -- The chains of the rules, then those of the input rows, then the lists of nodes; each keeps what was there before it.

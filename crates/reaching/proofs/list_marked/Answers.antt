@@ -1,9 +1,8 @@
 -- Invariant: the marked nodes below n stand on the list. Measure: the nodes left.
-use mathlib.Core.Path.{◌≡◌, subst}
-use Prim.Native.Nat.{ℕ, ◌+◌, ◌-◌, ◌≤◌, ◌<◌}
+use Prim.Native.Nat.{◌+◌, ◌<◌}
 use native.Mathlib.Omega.{arith}
-use lib.ListN.{length, get_or}
-use Rattle.reaching.specs.Listing.{Listing, listing_none, listing_more, counted_small}
+use lib.ListN.{length}
+use Rattle.reaching.specs.Listing.{listing_more}
 use Rattle.reaching.proofs.list_marked.Goals as goal
 
 pub loop-n-preserved : goal.loop-n-preserved

@@ -1,9 +1,6 @@
 -- Invariant: the marked nodes below n stand on the list. Measure: the nodes left.
-use mathlib.Core.Path.{◌≡◌, subst}
-use Prim.Native.Nat.{ℕ, ◌+◌, ◌-◌, ◌≤◌, ◌<◌}
-use native.Mathlib.Omega.{arith}
-use lib.ListN.{length, get_or}
-use Rattle.reaching.specs.Listing.{Listing, listing_none, listing_more, counted_small}
+use Prim.Native.Nat.{◌-◌, ◌≤◌}
+use Rattle.reaching.specs.Listing.{Listing}
 use Rattle.reaching.proofs.list_marked.Given as goal
 
 abbrev pub invariant-loop-n : goal.invariant-loop-n

@@ -1,9 +1,7 @@
 -- Invariant: the lists of the symbols below s. Measure: the symbols left.
-use mathlib.Core.Path.{◌≡◌, subst}
-use Prim.Native.Nat.{ℕ, ◌-◌, ◌≤◌}
-use native.Mathlib.Omega.{arith}
+use Prim.Native.Nat.{◌-◌, ◌≤◌}
 use Rattle.kind_words.specs.Sizes.{rule_symbols}
-use Rattle.reaching.specs.Listing.{ListedTo, list_room, listed_none, listed_more, rules_kept}
+use Rattle.reaching.specs.Listing.{ListedTo}
 use Rattle.reaching.proofs.list_nodes.Given as goal
 
 abbrev pub invariant-loop-lists : goal.invariant-loop-lists

@@ -1,5 +1,4 @@
 -- Both sides of the test.
-use borrow.Author.Rules.{rules}
 use Rattle.reaching.specs.Marks.{marked_if}
 use Rattle.reaching.proofs.mark.Goals as goal
 

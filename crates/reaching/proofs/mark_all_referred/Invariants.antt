@@ -1,10 +1,9 @@
 -- Invariant: what the marked nodes from n on refer to is marked. Measure: n.
-use mathlib.Core.Path.{◌≡◌, refl, subst, ◌∙◌}
-use Prim.Native.Nat.{ℕ, suc, ◌-◌, ◌≤◌, ◌<◌}
-use native.Mathlib.Omega.{arith}
+use mathlib.Core.Path.{◌≡◌}
+use Prim.Native.Nat.{◌≤◌}
 use lib.ListN.{length}
 use Rattle.model.specs.Tables.{node_count}
-use Rattle.reaching.specs.Marks.{Closed, closed_none, closed_more}
+use Rattle.reaching.specs.Marks.{Closed}
 use Rattle.reaching.proofs.mark_all_referred.Given as goal
 
 abbrev pub invariant-loop-n : goal.invariant-loop-n

@@ -1,12 +1,8 @@
 -- What a good node refers to is below it, and so has a mark; a node that is not marked changes nothing.
 use mathlib.Core.Path.{◌≡◌, ap, ◌∙◌}
-use Prim.Native.Nat.{◌≤◌}
-use native.Mathlib.Omega.{arith}
-use borrow.Author.Rules.{rules}
-use borrow.Author.Tests.{leb-true}
 use Rattle.model.specs.Tables
 use Rattle.model.specs.Admission.{references}
-use Rattle.reaching.specs.Marks.{first_smaller, second_smaller, referred_taken, referred_kept}
+use Rattle.reaching.specs.Marks.{referred_taken, referred_kept}
 use Rattle.reaching.proofs.mark_referred.Goals as goal
 
 -- What a good node refers to is below it, and so has a mark; a node that is not marked changes nothing.

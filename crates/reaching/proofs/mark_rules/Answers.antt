@@ -1,12 +1,11 @@
 -- Invariant: a walk along the symbol's chain has come to rule r, and the nodes of the symbol's rules before it are marked. Measure:
 -- the rules left.
-use mathlib.Core.Path.{◌≡◌, refl, subst, ◌∙◌}
-use Prim.Native.Nat.{ℕ, ◌-◌, ◌/◌, ◌<◌}
+use mathlib.Core.Path.{◌≡◌, subst, ◌∙◌}
+use Prim.Native.Nat.{ℕ, ◌/◌}
 use native.Mathlib.Omega.{arith}
 use lib.ListN.{length}
-use Rattle.model.specs.Tables
-use Rattle.kind_words.specs.Chains.{Walk, walk_starts, walk_goes, walk_less, walk_ends}
-use Rattle.reaching.specs.Marks.{RulesMarked, no_rules_marked, rule_marked}
+use Rattle.kind_words.specs.Chains.{walk_goes, walk_ends}
+use Rattle.reaching.specs.Marks.{RulesMarked, rule_marked}
 use Rattle.reaching.proofs.mark_rules.Goals as goal
 
 pub loop-r-preserved : goal.loop-r-preserved

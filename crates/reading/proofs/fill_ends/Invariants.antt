@@ -1,11 +1,9 @@
 -- `reading::fill_ends` meets its contract. The loop's invariant: the entries of the places from i on are right. The measure is
 -- i, which falls to 0.
-use mathlib.Core.Path.{◌≡◌, refl}
-use Prim.Native.Nat.{◌-◌, ◌≤◌}
-use native.Mathlib.Omega.{arith}
-use lib.ListN.{length, length-set}
+use mathlib.Core.Path.{◌≡◌}
+use Prim.Native.Nat.{◌≤◌}
+use lib.ListN.{length}
 use Rattle.reading.specs.Ends.{EndsFrom}
-use Rattle.reading.proofs.Ends.{ends_more}
 use Rattle.reading.proofs.fill_ends.Given as goal
 
 abbrev pub invariant-loop-i : goal.invariant-loop-i

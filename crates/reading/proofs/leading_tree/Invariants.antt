@@ -1,11 +1,8 @@
 -- `reading::leading_tree` meets its contract. The loop's invariant: what is read of all the numbers is what is read from the
 -- place reached on, where `due` trees are to come, at most one more than numbers passed. The measure is what is left.
-use mathlib.Core.Path.{sym, ◌∙◌}
 use Prim.Native.Nat.{◌+◌, ◌-◌, ◌≤◌}
-use native.Mathlib.Omega.{arith}
-use borrow.Author.Tests.{leb-true, leb-false}
-use lib.ListN.{length, get_or}
-use Rattle.reading.proofs.Steps.{Reached, reached_start, reached_end, reached_short, reached_fault, reached-next, due_bound}
+use lib.ListN.{length}
+use Rattle.reading.proofs.Steps.{Reached}
 use Rattle.reading.proofs.leading_tree.Given as goal
 
 abbrev pub invariant-loop-due : goal.invariant-loop-due

@@ -1,8 +1,5 @@
 -- What is refused and what is taken follow from what the numbers looked at begin with.
 use mathlib.Core.Path.{ap, sym, ◌∙◌}
-use native.Mathlib.Omega.{arith}
-use lib.Seq.{length-take-le}
-use borrow.Author.Rules.{rules}
 use Rattle.reading.specs.Answers.{leading_of}
 use Rattle.reading.proofs.Verdicts.{tree_there, verdict_begins, taken_begins}
 use Rattle.reading.proofs.read.Goals as goal

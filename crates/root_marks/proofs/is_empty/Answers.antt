@@ -1,5 +1,4 @@
 -- The bit as it is tested.
-use borrow.Author.Rules.{rules}
 use Rattle.model.specs.Kinds.{marks_in}
 use Rattle.root_marks.proofs.MarkBits.{bit_tested}
 use Rattle.root_marks.proofs.is_empty.Goals as goal

@@ -1,6 +1,5 @@
 -- By the definition: the one mark is added.
 use native.Mathlib.Omega.{arith}
-use borrow.Author.Rules.{rules}
 use Rattle.model.specs.Kinds.{with_marks}
 use Rattle.root_marks.proofs.marked_empty.Goals as goal
 

@@ -1,6 +1,5 @@
 -- By the definition: what is added is the mark where the right kind has its own, and 0 elsewhere.
 use native.Mathlib.Omega.{arith}
-use borrow.Author.Rules.{rules}
 use Rattle.model.specs.Kinds.{with_marks}
 use Rattle.root_marks.proofs.marked_over.Goals as goal
 

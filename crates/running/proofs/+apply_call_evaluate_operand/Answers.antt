@@ -1,12 +1,11 @@
 -- What each answer is, the lemmas of Evaluating and Calling say, one for each place at which the code returns.
 use borrow.Enum.Refused.{opened}
 use mathlib.Core.Path.{◌≡◌, refl, ◌∙◌}
-use Prim.Native.Nat.{ℕ, ◌+◌, ◌*◌, ◌-◌, ◌<◌, ◌≤◌}
+use Prim.Native.Nat.{◌≤◌}
 use native.Mathlib.Omega.{arith}
 use lib.ListN.{length}
 use Rattle.tables.specs.Tuples.{node_of}
 use Rattle.plans.proofs.Limits.{most_bounded}
-use Rattle.running.specs.declared.Tally.{Tally}
 use Rattle.running.proofs.Evaluating.{named_small, operand_none, operand_falls, operand_evaluable, operand_evaluated, parameter_evaluated, operable, first_stopped, first_grown, second_stopped, second_grown, node_evaluated}
 use Rattle.running.proofs.Calling.{row_applied, left-inside, child_callable, call_applied, procedure_small, stay_small, too_many, symbol_small, side_evaluable, no_rule, called}
 use Rattle.running.proofs.+apply_call_evaluate_operand.Goals as goal

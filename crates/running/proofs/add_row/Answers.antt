@@ -2,10 +2,7 @@
 -- them no row is free.
 use mathlib.Core.Path.{ap}
 use Prim.Native.Nat.{ℕ, ◌*◌}
-use native.Mathlib.Omega.{arith}
-use lib.ListN.{length-set}
 use Rattle.running.proofs.Buffers.{row_added, no_row_free}
-use borrow.Author.Rules.{rules}
 use Rattle.running.proofs.add_row.Goals as goal
 
 -- `running::add_row` meets its contract: three stores behind the rows used are one row more, and where there is no room for

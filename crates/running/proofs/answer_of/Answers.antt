@@ -1,5 +1,4 @@
 -- `running::answer_of` meets its contract, case by case.
-use borrow.Author.Rules.{rules}
 use Rattle.running.proofs.answer_of.Goals as goal
 
 -- `running::answer_of` meets its contract, case by case.

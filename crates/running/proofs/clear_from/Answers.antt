@@ -1,11 +1,7 @@
 -- `running::clear_from` meets its contract. The loop's invariant: the first i numbers are those that stay, with zeros behind
 -- them. The measure is how many are left.
-use mathlib.Core.Path.{◌≡◌, refl, sym, ◌∙◌}
-use mathlib.Core.List.{◌++◌, append-nil}
-use Prim.Native.Nat.{◌+◌, ◌-◌, ◌≤◌, max}
 use native.Mathlib.Omega.{arith}
-use lib.ListN.{length, take, replicate, length-set}
-use Rattle.running.proofs.Buffers.{zero_more, zeros_to_end}
+use Rattle.running.proofs.Buffers.{zeros_to_end}
 use Rattle.running.proofs.clear_from.Goals as goal
 
 pub returns : goal.returns

@@ -1,11 +1,9 @@
 -- `running::clear_from` meets its contract. The loop's invariant: the first i numbers are those that stay, with zeros behind
 -- them. The measure is how many are left.
-use mathlib.Core.Path.{◌≡◌, refl, sym, ◌∙◌}
-use mathlib.Core.List.{◌++◌, append-nil}
-use Prim.Native.Nat.{◌+◌, ◌-◌, ◌≤◌, max}
-use native.Mathlib.Omega.{arith}
-use lib.ListN.{length, take, replicate, length-set}
-use Rattle.running.proofs.Buffers.{zero_more, zeros_to_end}
+use mathlib.Core.Path.{◌≡◌}
+use mathlib.Core.List.{◌++◌}
+use Prim.Native.Nat.{◌-◌, ◌≤◌, max}
+use lib.ListN.{length, take, replicate}
 use Rattle.running.proofs.clear_from.Given as goal
 
 abbrev pub invariant-loop-i : goal.invariant-loop-i

@@ -1,7 +1,6 @@
 -- `running::document_verdict` meets its contract: its verdict is that of the reading.
 use mathlib.Core.Path.{ap, sym}
 use Rattle.reading.specs.Answers.{reading_verdict}
-use borrow.Author.Rules.{rules}
 use Rattle.running.proofs.document_verdict.Goals as goal
 
 -- `running::document_verdict` meets its contract: its verdict is that of the reading.

@@ -1,5 +1,4 @@
 -- `running::end_with` meets its contract, case by case.
-use borrow.Author.Rules.{rules}
 use Rattle.running.proofs.end_with.Goals as goal
 
 -- `running::end_with` meets its contract, case by case.

@@ -4,7 +4,6 @@ use mathlib.Core.Path.{ap, sym}
 use Rattle.model.proofs.Laws.Answers.{then_passed}
 use Rattle.running.specs.Work.{verdict_of}
 use Rattle.running.proofs.Admitting.{refused_first}
-use borrow.Author.Rules.{rules}
 use Rattle.running.proofs.first_refusal.Goals as goal
 
 -- `running::first_refusal` meets its contract: the first verdict, or the next where that is fine.

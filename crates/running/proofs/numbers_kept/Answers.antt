@@ -2,7 +2,6 @@
 use borrow.Enum.Refused.{opened}
 use mathlib.Core.Path.{sym}
 use Rattle.running.proofs.Closing.{refused-keeps}
-use borrow.Author.Rules.{rules}
 use Rattle.running.proofs.numbers_kept.Goals as goal
 
 -- `running::numbers_kept` meets its contract: a refusal keeps nothing.

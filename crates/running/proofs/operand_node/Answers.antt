@@ -1,6 +1,5 @@
 -- `running::operand_node` meets its contract, for either operand.
 use borrow.Author.Tests.{eq-eqb, ne_eqb}
-use borrow.Author.Rules.{rules}
 use Rattle.running.proofs.operand_node.Goals as goal
 
 -- `running::operand_node` meets its contract, for either operand.

@@ -4,7 +4,6 @@ use mathlib.Core.Path.{ap, sym, ◌∙◌}
 use Rattle.model.specs.Tables.{contract}
 use Rattle.answers.specs.Numbers.{admission_answer}
 use Rattle.running.proofs.Admitting.{contract_refused, tables_known, contract_run}
-use borrow.Author.Rules.{rules}
 use Rattle.running.proofs.run.Goals as goal
 
 -- `running::run` meets its contract: a contract that is refused ends the run, and one that is admitted is known to satisfy what

@@ -1,7 +1,6 @@
 -- `running::run_admitted` meets its contract: what follows from each verdict before the work.
 use mathlib.Core.Path.{◌≡◌, ap, sym, ◌∙◌}
 use lib.ListN.{length}
-use borrow.Author.Rules.{rules}
 use Rattle.model.specs.Answers.{Verdict, refuse_if, ◌then◌}
 use Rattle.model.specs.Documents.{numbers_taken}
 use Rattle.model.specs.Running.{rows_wrong}

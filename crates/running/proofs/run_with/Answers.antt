@@ -2,13 +2,12 @@
 -- place 0 is the run's step, and clearing and answering are what closing does with it.
 use mathlib.Core.Path.{◌≡◌, ap, ap₂, ◌∙◌}
 use Prim.Native.Nat.{ℕ, ◌/◌}
-use native.Mathlib.Omega.{arith}
-use lib.ListN.{length, take, length-replicate}
+use lib.ListN.{length, take}
 use Rattle.foundation.specs.Lists.{zero_filled}
-use Rattle.plans.specs.Plans.{plan_length, transformation_of}
+use Rattle.plans.specs.Plans.{transformation_of}
 use Rattle.running.specs.declared.Ended.{Ended}
 use Rattle.running.specs.Work.{numbers_kept, end_answer}
-use Rattle.running.proofs.Closing.{small_rules, callable, closes}
+use Rattle.running.proofs.Closing.{callable, closes}
 use Rattle.running.proofs.run_with.Goals as goal
 
 -- `running::run_with` meets its contract: the plan of the filled ends may be called, the outcome of calling procedure 0 at

@@ -1,5 +1,4 @@
 -- `running::verdict_before` meets its contract: the first refusal of the buffer's verdict and the document's, in this order.
-use borrow.Author.Rules.{rules}
 use Rattle.running.proofs.verdict_before.Goals as goal
 
 -- `running::verdict_before` meets its contract: the first refusal of the buffer's verdict and the document's, in this order.

@@ -1,9 +1,5 @@
 -- The rule puts its block at its procedure's offset.
 use mathlib.Core.Path.{refl, ap, ◌∙◌}
-use Prim.Native.Nat.{◌-◌, ◌<◌}
-use native.Mathlib.Omega.{arith}
-use lib.ListN.{length}
-use borrow.Author.Rules.{rules}
 use Rattle.model.specs.Tables
 use Rattle.kind_words.specs.Rules.{rule_added}
 use Rattle.symbol_kinds.proofs.add_rule.Goals as goal

@@ -1,13 +1,9 @@
 -- Invariant: a walk along the symbol's chain has come to rule r, and the kind has the facts of the rules before it. Measure: the
 -- rules left.
-use mathlib.Core.Path.{◌≡◌, refl}
-use Prim.Native.Nat.{◌-◌, ◌/◌, ◌<◌}
+use mathlib.Core.Path.{refl}
 use native.Mathlib.Omega.{arith}
-use lib.ListN.{length}
-use Rattle.model.specs.Tables
-use Rattle.lanes.specs.Layouts.{layout_of}
-use Rattle.kind_words.specs.Chains.{Walk, walk_starts, walk_goes, walk_less, walk_ends}
-use Rattle.kind_words.specs.Rules.{with_rules, rules_first, rules_next}
+use Rattle.kind_words.specs.Chains.{walk_starts, walk_goes}
+use Rattle.kind_words.specs.Rules.{rules_first, rules_next}
 use Rattle.symbol_kinds.proofs.add_rules.Goals as goal
 
 pub loop-r-init : goal.loop-r-init

@@ -1,13 +1,12 @@
 -- Invariant: a walk along the symbol's chain has come to rule r, and the kind has the facts of the rules before it. Measure: the
 -- rules left.
-use mathlib.Core.Path.{◌≡◌, refl}
-use Prim.Native.Nat.{◌-◌, ◌/◌, ◌<◌}
-use native.Mathlib.Omega.{arith}
+use mathlib.Core.Path.{◌≡◌}
+use Prim.Native.Nat.{◌-◌, ◌/◌}
 use lib.ListN.{length}
 use Rattle.model.specs.Tables
 use Rattle.lanes.specs.Layouts.{layout_of}
-use Rattle.kind_words.specs.Chains.{Walk, walk_starts, walk_goes, walk_less, walk_ends}
-use Rattle.kind_words.specs.Rules.{with_rules, rules_first, rules_next}
+use Rattle.kind_words.specs.Chains.{Walk}
+use Rattle.kind_words.specs.Rules.{with_rules}
 use Rattle.symbol_kinds.proofs.add_rules.Given as goal
 
 abbrev pub invariant-loop-r : goal.invariant-loop-r

@@ -1,5 +1,4 @@
 -- A prepared contract has its rules in chains.
-use mathlib.Core.Path.{◌∙◌}
 use Rattle.kind_words.specs.Fits.{rules-in}
 use Rattle.symbol_kinds.proofs.facts_for.Goals as goal
 

@@ -1,7 +1,5 @@
 -- A prepared contract has a list of nodes for each symbol.
-use mathlib.Core.Path.{◌∙◌}
 use native.Mathlib.Omega.{arith}
-use borrow.Author.Rules.{rules}
 use Rattle.kind_words.specs.Fits.{nodes_fit}
 use Rattle.symbol_kinds.proofs.fill_words_for.Goals as goal
 

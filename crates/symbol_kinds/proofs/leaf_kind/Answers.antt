@@ -1,9 +1,7 @@
 -- The empty forest is symbol 0 over two kinds that have input state 0 and no fact, with its own mark.
 use mathlib.Core.Path.{◌∙◌}
-use native.Mathlib.Omega.{arith}
-use borrow.Author.Rules.{rules}
 use Rattle.kind_words.specs.Marked.{first_marked, unmarked_small}
-use Rattle.kind_words.specs.Ends.{leaf_kind_is, below_words}
+use Rattle.kind_words.specs.Ends.{leaf_kind_is}
 use Rattle.symbol_kinds.proofs.leaf_kind.Goals as goal
 
 -- The empty forest is symbol 0 over two kinds that have input state 0 and no fact, with its own mark.

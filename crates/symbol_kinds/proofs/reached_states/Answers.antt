@@ -1,12 +1,9 @@
 -- Invariant: a walk along the symbol's chain has come to row r, and the word has the states of the rows before it. Measure: the
 -- rows left.
-use mathlib.Core.Path.{◌≡◌, refl}
-use Prim.Native.Nat.{◌-◌, ◌/◌, ◌<◌}
+use mathlib.Core.Path.{refl}
 use native.Mathlib.Omega.{arith}
-use lib.ListN.{length}
-use Rattle.model.specs.Tables
-use Rattle.kind_words.specs.Chains.{Walk, walk_starts, walk_goes, walk_less, walk_ends}
-use Rattle.kind_words.specs.States.{row_states, states_first, states_next}
+use Rattle.kind_words.specs.Chains.{walk_starts, walk_goes}
+use Rattle.kind_words.specs.States.{states_first, states_next}
 use Rattle.symbol_kinds.proofs.reached_states.Goals as goal
 
 pub loop-r-init : goal.loop-r-init

@@ -1,12 +1,11 @@
 -- Invariant: a walk along the symbol's chain has come to row r, and the word has the states of the rows before it. Measure: the
 -- rows left.
-use mathlib.Core.Path.{◌≡◌, refl}
-use Prim.Native.Nat.{◌-◌, ◌/◌, ◌<◌}
-use native.Mathlib.Omega.{arith}
+use mathlib.Core.Path.{◌≡◌}
+use Prim.Native.Nat.{◌-◌, ◌/◌}
 use lib.ListN.{length}
 use Rattle.model.specs.Tables
-use Rattle.kind_words.specs.Chains.{Walk, walk_starts, walk_goes, walk_less, walk_ends}
-use Rattle.kind_words.specs.States.{row_states, states_first, states_next}
+use Rattle.kind_words.specs.Chains.{Walk}
+use Rattle.kind_words.specs.States.{row_states}
 use Rattle.symbol_kinds.proofs.reached_states.Given as goal
 
 abbrev pub invariant-loop-r : goal.invariant-loop-r

@@ -1,12 +1,6 @@
 -- A row's states are few, so that its bits fit.
 use mathlib.Core.Path.{refl, ap, ◌∙◌}
-use Prim.Native.Nat.{ℕ, ◌-◌, ◌*◌, ◌^◌, ◌<◌}
-use native.Mathlib.Omega.{arith}
-use borrow.Author.Rules.{rules}
-use lib.Bits.{bit_and}
 use Rattle.model.specs.Tables
-use Rattle.kind_words.specs.Sizes.{most_input_states}
-use Rattle.kind_words.specs.Blocks.{one_at}
 use Rattle.kind_words.specs.States.{row_taken}
 use Rattle.symbol_kinds.proofs.row_state.Goals as goal
 

@@ -1,6 +1,6 @@
 -- A procedure's lanes are at least one bit and at most the width, so that the step between the bits taken is not 0.
-use mathlib.Core.Path.{◌≡◌, ◌∙◌}
-use Prim.Native.Nat.{◌-◌, ◌^◌, ◌≤◌, ◌<◌}
+use mathlib.Core.Path.{◌≡◌}
+use Prim.Native.Nat.{◌^◌, ◌≤◌, ◌<◌}
 use native.Mathlib.Omega.{arith}
 use Rattle.lanes.proofs.Room.{power_small, pow_some, quotient}
 use Rattle.symbol_kinds.proofs.rule_block.Goals as goal

@@ -1,6 +1,5 @@
 -- A prepared contract has its input rows in chains, from where its rules' chains end.
 use mathlib.Core.Path.{◌∙◌}
-use borrow.Author.Rules.{rules}
 use Rattle.kind_words.specs.Fits.{rows_in}
 use Rattle.symbol_kinds.proofs.states_for.Goals as goal
 

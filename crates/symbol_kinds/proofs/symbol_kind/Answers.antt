@@ -2,7 +2,6 @@
 use mathlib.Core.Path.{ap, ◌∙◌}
 use mathlib.Core.List.{List, [], ◌∷◌, ◌++◌}
 use Prim.Native.Nat.{ℕ}
-use borrow.Author.Rules.{rules}
 use Rattle.kind_words.specs.Marked.{first_marked, symbol_marked, unmarked_small}
 use Rattle.kind_words.specs.Ends.{kind_five}
 use Rattle.symbol_kinds.proofs.symbol_kind.Goals as goal

@@ -1,7 +1,6 @@
 -- What is called gives the table form of the kind step by step; the table form is the kind without its marks.
 use mathlib.Core.Path.{◌∙◌}
 use native.Mathlib.Omega.{arith}
-use borrow.Author.Rules.{rules}
 use Rattle.kind_words.specs.Kind.{kind_steps, kind_form_is}
 use Rattle.symbol_kinds.proofs.unmarked_kind.Goals as goal
 

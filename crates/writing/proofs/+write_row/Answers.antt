@@ -1,7 +1,6 @@
 -- The children of a row that is not wrong are below it. What is written is the symbol, then the left child's numbers, then the right
 -- child's, one behind another.
 use mathlib.Core.Path.{◌≡◌, refl, ap, ◌∙◌}
-use Prim.Native.Nat.{ℕ, ◌+◌, ◌<◌}
 use native.Mathlib.Omega.{arith}
 use lib.ListN.{length, set, length-set}
 use Rattle.model.specs.Rows.{tree_at}

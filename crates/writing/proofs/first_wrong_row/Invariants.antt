@@ -1,14 +1,8 @@
 -- `writing::first_wrong_row` meets its contract. The loop's invariant: no row below k is wrong. The measure is what is
 -- left of the rows; the laws of `first` close the rest.
-use mathlib.Core.Path.{◌≡◌, ap, sym, ◌∙◌}
+use mathlib.Core.Path.{◌≡◌}
 use mathlib.Core.Bool.{false}
 use Prim.Native.Nat.{ℕ, ◌≤◌, ◌<◌, ◌-◌}
-use native.Mathlib.Omega.{arith}
-use borrow.Author.Count.{below_more, below_none}
-use borrow.Author.Rules.{rules}
-use Rattle.foundation.specs.Search.{first_at, first_none}
-use Rattle.model.specs.Rows.{row_count}
-use Rattle.model.specs.WritingOut.{row_wrong}
 use Rattle.writing.specs.Rows.{wrong_at}
 use Rattle.writing.proofs.first_wrong_row.Given as goal
 

@@ -1,7 +1,6 @@
 -- `writing::row_size` meets its contract: the table holds the children's sizes, each at most `most`, so that their sum does
 -- not wrap; cut at `most` it is the row's.
 use native.Mathlib.Omega.{arith}
-use borrow.Author.Rules.{rules}
 use mathlib.Core.Path.{◌≡◌}
 use lib.ListN.{length}
 use Rattle.writing.specs.Rows.{numbers_at}

@@ -1,12 +1,9 @@
 -- `writing::size_with` meets its contract. The loop's invariant: the table holds the size of each row below k. The measure
 -- is what is left of the rows up to the one asked for.
-use mathlib.Core.Path.{◌≡◌, refl}
+use mathlib.Core.Path.{◌≡◌}
 use Prim.Native.Nat.{ℕ, ◌+◌, ◌-◌, ◌<◌, ◌≤◌}
-use native.Mathlib.Omega.{arith}
-use borrow.Author.Count.{below_none}
-use lib.ListN.{length, get_or, length-set}
+use lib.ListN.{length, get_or}
 use Rattle.writing.specs.Rows.{size_within}
-use Rattle.foundation.specs.Lists.{filled_more}
 use Rattle.writing.proofs.size_with.Given as goal
 
 abbrev pub invariant-loop-k : goal.invariant-loop-k

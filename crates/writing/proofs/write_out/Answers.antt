@@ -2,7 +2,6 @@
 -- The tree's size, counted no further than one above the room, tells whether the tree fits.
 use mathlib.Core.Path.{sym, ◌∙◌}
 use native.Mathlib.Omega.{arith}
-use borrow.Author.Rules.{rules}
 use Rattle.writing.proofs.Answers.{Ready, ready, row_few, wrong_length, wrong_row, no_row, no_room, fits, all_written}
 use Rattle.writing.proofs.write_out.Goals as goal
 

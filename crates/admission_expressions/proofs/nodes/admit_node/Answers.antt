@@ -1,6 +1,5 @@
 -- `admit_node`: the definition is the first fault of its five tests.
 use mathlib.Core.Path.{◌∙◌}
-use borrow.Author.Rules.{rules}
 use Rattle.model.specs.Admission.{node_fault}
 use Rattle.admission_expressions.proofs.nodes.admit_node.Goals as goal
 

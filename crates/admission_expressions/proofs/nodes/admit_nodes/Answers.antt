@@ -1,13 +1,10 @@
 -- `admit_nodes` gives the fault of the lowest bad node. Invariant: no node passed has a fault; measure: the nodes left.
 use mathlib.Core.Path.{◌≡◌}
-use Prim.Native.Nat.{ℕ, ◌-◌, ◌/◌, ◌<◌, ◌≤◌}
+use Prim.Native.Nat.{◌/◌}
 use native.Mathlib.Omega.{arith}
-use borrow.Author.Count.{below_more, below_none}
-use borrow.Author.Rules.{rules}
+use borrow.Author.Count.{below_more}
 use lib.ListN.{length}
-use Rattle.model.specs.Tables.{node_at}
-use Rattle.model.specs.Answers.{fine}
-use Rattle.model.specs.Admission.{node_fault, lowest_node_fault}
+use Rattle.model.specs.Admission.{lowest_node_fault}
 use Rattle.model.proofs.Laws.Answers.{refuse_lowest_none, refuse_lowest_at}
 use Rattle.answers.proofs.Answered.{answer_fine, part_passed, part_refused}
 use Rattle.admission_expressions.proofs.nodes.admit_nodes.Goals as goal

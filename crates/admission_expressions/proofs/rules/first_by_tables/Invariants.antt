@@ -1,14 +1,10 @@
 -- `first_by_tables` finds the first place at which its test holds. Invariant: no place passed holds it; measure: the places left.
 -- The test at each place is `rule_wrong` of the rule there, over the two tables.
 use mathlib.Core.Bool.{false}
-use mathlib.Core.Path.{◌≡◌, sym, ap, ◌∙◌}
-use Prim.Native.Nat.{ℕ, ◌-◌, ◌/◌, ◌<◌, ◌≤◌}
-use native.Mathlib.Omega.{arith}
-use borrow.Author.Count.{below_more, below_none}
-use lib.ListN.{length}
-use Rattle.foundation.specs.Search.{first_at, first_none}
+use mathlib.Core.Path.{◌≡◌}
+use Prim.Native.Nat.{ℕ, ◌-◌, ◌<◌, ◌≤◌}
 use Rattle.model.specs.Admission.{rule_wrong}
-use Rattle.model.specs.Tables.{Rule, rule_at}
+use Rattle.model.specs.Tables.{rule_at}
 use Rattle.admission_expressions.proofs.rules.first_by_tables.Given as goal
 
 abbrev pub invariant-loop-k : goal.invariant-loop-k

@@ -1,5 +1,4 @@
 -- `rule_wrong` is its definition, with what a node uses read from the tables: `rule_by_tables`.
-use borrow.Author.Rules.{rules}
 use Rattle.tables.specs.Tuples.{rule_of}
 use Rattle.admission_expressions.proofs.NodeUses.{rule_by_tables}
 use Rattle.admission_expressions.proofs.rules.rule_wrong.Goals as goal

@@ -1,13 +1,9 @@
 -- `fill_calls`: every entry passed is right, whatever the table held before; the measure is the nodes left.
 -- One more entry is `calls_more`.
-use mathlib.Core.Path.{◌≡◌, refl}
+use mathlib.Core.Path.{◌≡◌}
 use Prim.Native.Nat.{◌-◌, ◌≤◌}
-use native.Mathlib.Omega.{arith}
-use borrow.Author.Count.{below_none}
-use lib.ListN.{length, length-set}
-use Rattle.model.specs.Tables.{node_count}
+use lib.ListN.{length}
 use Rattle.admission_expressions.specs.Uses.{CallsKnown}
-use Rattle.admission_expressions.proofs.NodeUses.{calls_more}
 use Rattle.admission_expressions.proofs.uses.fill_calls.Given as goal
 
 abbrev pub invariant-loop-k : goal.invariant-loop-k

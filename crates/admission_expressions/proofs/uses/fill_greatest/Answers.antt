@@ -1,12 +1,7 @@
 -- `fill_greatest`: every entry passed is right, whatever the table held before; the measure is the nodes left.
 -- One more entry is `greatest_more`.
-use mathlib.Core.Path.{◌≡◌, refl}
-use Prim.Native.Nat.{◌-◌, ◌≤◌}
 use native.Mathlib.Omega.{arith}
-use borrow.Author.Count.{below_none}
-use lib.ListN.{length, length-set}
-use Rattle.model.specs.Tables.{node_count}
-use Rattle.admission_expressions.specs.Uses.{GreatestKnown}
+use lib.ListN.{length-set}
 use Rattle.admission_expressions.proofs.NodeUses.{greatest_more}
 use Rattle.admission_expressions.proofs.uses.fill_greatest.Goals as goal
 

@@ -1,13 +1,9 @@
 -- `first_bad_count` finds the first place at which its test holds. Invariant: no place passed holds it; measure: the places left.
 -- The test at each place is `count_wrong`.
 use mathlib.Core.Path.{◌≡◌, sym, ◌∙◌}
-use mathlib.Core.Bool.{false}
-use Prim.Native.Nat.{ℕ, ◌-◌, ◌<◌, ◌≤◌}
 use native.Mathlib.Omega.{arith}
-use borrow.Author.Count.{below_more, below_none}
 use lib.ListN.{length}
 use Rattle.foundation.specs.Search.{first_at, first_none}
-use Rattle.model.specs.Admission.{count_wrong}
 use Rattle.admission_tables.proofs.entries.first_bad_count.Goals as goal
 
 pub returns-then-count_wrong : goal.returns-then-count_wrong

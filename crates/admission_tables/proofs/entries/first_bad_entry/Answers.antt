@@ -1,13 +1,10 @@
 -- `first_bad_entry` finds the first place at which its test holds. Invariant: no place passed holds it; measure: the places left.
 -- The test at each place is `entry_wrong`.
 use mathlib.Core.Path.{◌≡◌, sym, ◌∙◌}
-use mathlib.Core.Bool.{false}
-use Prim.Native.Nat.{ℕ, ◌+◌, ◌-◌, ◌<◌, ◌≤◌}
+use Prim.Native.Nat.{◌+◌}
 use native.Mathlib.Omega.{arith}
-use borrow.Author.Count.{below_more, below_none}
 use lib.ListN.{length}
 use Rattle.foundation.specs.Search.{first_at, first_none}
-use Rattle.model.specs.Admission.{entry_wrong}
 use Rattle.admission_tables.proofs.entries.first_bad_entry.Goals as goal
 
 pub returns-then-entry_wrong : goal.returns-then-entry_wrong

@@ -1,12 +1,8 @@
 -- `first_bad_entry` finds the first place at which its test holds. Invariant: no place passed holds it; measure: the places left.
 -- The test at each place is `entry_wrong`.
-use mathlib.Core.Path.{◌≡◌, sym, ◌∙◌}
+use mathlib.Core.Path.{◌≡◌}
 use mathlib.Core.Bool.{false}
-use Prim.Native.Nat.{ℕ, ◌+◌, ◌-◌, ◌<◌, ◌≤◌}
-use native.Mathlib.Omega.{arith}
-use borrow.Author.Count.{below_more, below_none}
-use lib.ListN.{length}
-use Rattle.foundation.specs.Search.{first_at, first_none}
+use Prim.Native.Nat.{ℕ, ◌-◌, ◌<◌, ◌≤◌}
 use Rattle.model.specs.Admission.{entry_wrong}
 use Rattle.admission_tables.proofs.entries.first_bad_entry.Given as goal
 

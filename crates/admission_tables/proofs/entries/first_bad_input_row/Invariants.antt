@@ -1,13 +1,9 @@
 -- `first_bad_input_row` finds the first place at which its test holds. Invariant: no place passed holds it; measure: the places left.
 -- The test at each place is `input_row_wrong` of the row there.
-use mathlib.Core.Path.{◌≡◌, sym, ap, ◌∙◌}
+use mathlib.Core.Path.{◌≡◌}
 use mathlib.Core.Bool.{false}
-use Prim.Native.Nat.{ℕ, ◌-◌, ◌/◌, ◌<◌, ◌≤◌}
-use native.Mathlib.Omega.{arith}
-use borrow.Author.Count.{below_more, below_none}
-use lib.ListN.{length}
-use Rattle.foundation.specs.Search.{first_at, first_none}
-use Rattle.model.specs.Tables.{InputRow, input_row}
+use Prim.Native.Nat.{ℕ, ◌-◌, ◌<◌, ◌≤◌}
+use Rattle.model.specs.Tables.{input_row}
 use Rattle.model.specs.Admission.{input_row_wrong}
 use Rattle.admission_tables.proofs.entries.first_bad_input_row.Given as goal
 

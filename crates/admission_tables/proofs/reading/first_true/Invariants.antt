@@ -1,13 +1,9 @@
 -- `first_true` finds the first place at which its test holds. Invariant: no place passed holds it; measure: the places left.
 -- The test at each place is the entry there.
-use mathlib.Core.Path.{◌≡◌, sym, ◌∙◌}
+use mathlib.Core.Path.{◌≡◌}
 use mathlib.Core.Bool.{false}
 use Prim.Native.Nat.{ℕ, ◌-◌, ◌<◌, ◌≤◌}
-use native.Mathlib.Omega.{arith}
-use borrow.Author.Count.{below_more, below_none}
-use lib.ListN.{length}
 use lib.ListN.{get_or}
-use Rattle.foundation.specs.Search.{first_at, first_none}
 use Rattle.admission_tables.proofs.reading.first_true.Given as goal
 
 abbrev pub invariant-loop-k : goal.invariant-loop-k

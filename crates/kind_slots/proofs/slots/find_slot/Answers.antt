@@ -1,8 +1,7 @@
 -- Invariant: the slots before this place do not end the search, and the entry is that of this place's slot. Measure: how many of the 1,024
 -- are left, of which one is not occupied.
-use Rattle.std.proofs.Common.{ℕ, ◌+◌, ◌-◌, ◌%◌, sym, ap, ◌∙◌, arith, rules}
-use Rattle.kind_slots.specs.Slots.{first_slot}
-use Rattle.kind_slots.proofs.Searching.{others_are, Reached, reached_first, reached_few, reached_stands, reached-next, ends_at_row, ends_at_free}
+use Rattle.std.proofs.Common.{ℕ, ◌%◌, sym, ap, ◌∙◌, arith}
+use Rattle.kind_slots.proofs.Searching.{others_are, reached_first, reached_few, reached-next, ends_at_row, ends_at_free}
 use Rattle.kind_slots.proofs.slots.find_slot.Goals as goal
 
 pub loop-entry-init : goal.loop-entry-init

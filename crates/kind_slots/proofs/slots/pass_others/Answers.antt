@@ -1,7 +1,7 @@
 -- Invariant: the slots before this place have some of the bits, and the entry is that of this place's slot. Measure: how many of the 1,024
 -- are left.
-use Rattle.std.proofs.Common.{◌≡◌, ℕ, ◌+◌, ◌-◌, ◌%◌, get_or, refl, ap, ◌∙◌, arith, rules}
-use Rattle.kind_slots.proofs.Searching.{Along, along_none, along_few, along_more, along_ends}
+use Rattle.std.proofs.Common.{ℕ, get_or, refl, ap, ◌∙◌, arith}
+use Rattle.kind_slots.proofs.Searching.{along_few, along_more, along_ends}
 use Rattle.kind_slots.proofs.slots.pass_others.Goals as goal
 
 pub overflow_add-place : goal.overflow_add-place

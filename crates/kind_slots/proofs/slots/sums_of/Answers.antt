@@ -1,7 +1,6 @@
 -- Dropping the carry at each addition drops it from the whole.
 use Rattle.kind_slots.specs.Slots.{kind_sum, weighted_sum}
 use Rattle.kind_slots.proofs.Sums.{sum_of_words, sum_of_sums}
-use Rattle.std.proofs.Common.{rules}
 use Rattle.kind_slots.proofs.slots.sums_of.Goals as goal
 
 -- Dropping the carry at each addition drops it from the whole.

@@ -1,10 +1,8 @@
 -- Entry 0 is the pair of what both types give the empty forest; each other one is for a symbol over two pairs.
 use mathlib.Core.Path.{◌∙◌}
-use native.Mathlib.Nat.{mul-pos}
 use native.Mathlib.Omega.{arith}
 use Rattle.merging_pairs.specs.Types.{table_only}
-use Rattle.merging_pairs.proofs.Entries.{entry_empty, entry_next, symbol_small, next_below}
-use borrow.Author.Rules.{rules}
+use Rattle.merging_pairs.proofs.Entries.{entry_empty, entry_next}
 use Rattle.merging_pairs.proofs.filling.entry_of.Goals as goal
 
 -- Entry 0 is the pair of what both types give the empty forest; each other one is for a symbol over two pairs.

@@ -1,11 +1,9 @@
 -- Every mark passed is right, and the buffer is as it was behind them; the measure is the marks left.
-use mathlib.Core.Path.{◌≡◌, refl}
+use mathlib.Core.Path.{◌≡◌}
 use Prim.Native.Nat.{◌-◌, ◌*◌, ◌≤◌}
-use native.Mathlib.Omega.{arith}
 use Rattle.model.specs.Merging.{pair_mark}
-use Rattle.model.proofs.Laws.Merging.{marks_filled}
 use Rattle.merging_pairs.specs.Types.{marks_only}
-use Rattle.merging_pairs.proofs.Written.{Filled, filled_none, filled_next}
+use Rattle.merging_pairs.proofs.Written.{Filled}
 use Rattle.merging_pairs.proofs.filling.fill_marks.Given as goal
 
 abbrev pub invariant-loop-q : goal.invariant-loop-q

@@ -1,13 +1,10 @@
 -- Every entry passed is right, and the buffer is as it was behind them; the measure is the entries left.
 use mathlib.Core.Path.{◌≡◌}
 use Prim.Native.Nat.{◌-◌, ◌*◌, ◌≤◌}
-use native.Mathlib.Omega.{arith}
 use Rattle.model.specs.Admission.{table_length}
 use Rattle.model.specs.Merging.{pair_entry}
-use Rattle.model.proofs.Laws.Merging.{table_filled}
-use Rattle.admission_tables.proofs.Bounds.{table_bounds}
 use Rattle.merging_pairs.specs.Types.{table_only}
-use Rattle.merging_pairs.proofs.Written.{Filled, filled_none, filled_next}
+use Rattle.merging_pairs.proofs.Written.{Filled}
 use Rattle.merging_pairs.proofs.filling.fill_table.Given as goal
 
 abbrev pub invariant-loop-k : goal.invariant-loop-k
