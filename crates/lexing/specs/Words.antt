@@ -2,9 +2,7 @@
 use Rattle.std.specs.Prelude.{List, [], ◌∷◌, ℕ}
 use Rattle.foundation.specs.Tests.{choose}
 use Rattle.foundation.specs.Lists.{same_list}
-use Rattle.lexing.specs.declared.words.Size.{Size}
 use Rattle.lexing.specs.declared.words.Size.TheVariants as size
-use Rattle.lexing.specs.declared.words.Table.{Table}
 use Rattle.lexing.specs.declared.words.Table.TheVariants as table
 use Rattle.lexing.specs.declared.words.Word.{Word}
 use Rattle.lexing.specs.declared.words.Word.TheVariants as word

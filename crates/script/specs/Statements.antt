@@ -4,7 +4,6 @@ use Rattle.foundation.specs.Tests.{choose}
 use Rattle.lexing.specs.Words.{word_of}
 use Rattle.script.specs.Spans.{span_at, fault, bytes_of, due_at, listing, numbers_of}
 use Rattle.script.specs.declared.spans.Span.{Span}
-use Rattle.script.specs.declared.spans.Fault.{Fault}
 use Rattle.script.specs.declared.spans.Expected.TheVariants as expected
 use Rattle.script.specs.declared.spans.Due.{Due}
 use Rattle.script.specs.declared.spans.Due.TheVariants as due

@@ -5,8 +5,6 @@ use Rattle.answers.proofs.Answered.{answer_passed, part_passed, part_stopped}
 use Rattle.admission.proofs.Order.{stages, few_entries, few_procedures, small-counts, few-nodes}
 use Rattle.admission.proofs.admit.Goals as goal
 
--- `admit`: admission is its three stages one after another (`stages`), so a stage that refuses gives the answer, and one that
--- admits establishes what the next one asks.
 pub returns-in_default : goal.returns-in_default
 returns-in_default c = part_stopped _ _ _ _ c.in_default.is c.admit_shape-shape.ensures ∙ sym (stages _ _ _ _ _ _ _ _ _ _)
 

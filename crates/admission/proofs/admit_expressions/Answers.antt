@@ -7,8 +7,6 @@ use Rattle.admission.specs.Stages.{expressions}
 use Rattle.admission.proofs.Order.{good_nodes, facts_over, facts_within}
 use Rattle.admission.proofs.admit_expressions.Goals as goal
 
--- `admit_expressions`: each answer is that of the first part that refuses. A search that ends before its last place refuses, one
--- that does not is fine. Nodes that are fine are good, as the search of the rules asks.
 pub returns-in_default : goal.returns-in_default
 unfolding expressions nodes
 returns-in_default c = part_stopped _ _ _ _ c.in_default.is c.admit_nodes-answer.ensures

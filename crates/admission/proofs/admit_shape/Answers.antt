@@ -6,8 +6,6 @@ use Rattle.admission.specs.Stages.{shape}
 use Rattle.answers.proofs.Answered.{answer_refused, answer_passed, answer_last, answer_fine}
 use Rattle.admission.proofs.admit_shape.Goals as goal
 
--- `admit_shape`: a search that ends before its last place refuses, one that does not is fine; each answer is that of the first
--- part that refuses. The sizes that are fine bound the length of the output table.
 pub returns-then-size-lt4 : goal.returns-then-size-lt4
 unfolding shape
 returns-then-size-lt4 c = answer_refused _ _ 1 _ (refuse_first_at 1 _ 4 _ c.first_bad_size-size.ensures c.if-size-lt4.true)

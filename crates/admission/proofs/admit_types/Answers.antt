@@ -6,8 +6,6 @@ use Rattle.admission.specs.Stages.{types}
 use Rattle.answers.proofs.Answered.{answer_refused, answer_passed, answer_last, answer_fine}
 use Rattle.admission.proofs.admit_types.Goals as goal
 
--- `admit_types`: a search that ends before its last place refuses, one that does not is fine; each answer is that of the first
--- part that refuses.
 pub returns-then-row-input_rows : goal.returns-then-row-input_rows
 unfolding types input_rows
 returns-then-row-input_rows c = answer_refused _ _ 3 _ (refuse_first_at 3 _ _ _ c.first_bad_input_row-row.ensures c.if-row-input_rows.true)

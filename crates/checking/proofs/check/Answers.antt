@@ -7,11 +7,8 @@ use Rattle.answers.specs.Numbers.{admission_answer}
 use Rattle.admission.proofs.Answered.{admitted_fine}
 use Rattle.preparing.specs.Packing.{covered, short, room_enough}
 use Rattle.checking.proofs.Answering.{Tested, tested, refused_contract, refused_size, checked}
-use borrow.Author.Rules.{rules}
 use Rattle.checking.proofs.check.Goals as goal
 
--- Each refusal is the definition's; where nothing is refused the contract is established and the buffers have room, so that the
--- contract can be prepared and checked.
 pub returns-in-Refused : goal.returns-in-Refused
 returns-in-Refused c = refused_contract _ _ _ _ c.in-Refused.fault (sym (ap admission_answer c.in-Refused.is) ∙ c.admit-admission.ensures)
 

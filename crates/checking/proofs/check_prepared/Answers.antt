@@ -1,10 +1,8 @@
 -- The rows that stand fit the buffers; what is after them is cleared.
 use native.Mathlib.Omega.{arith}
 use Rattle.checking.proofs.Ending.{stands, ended_gives}
-use borrow.Author.Rules.{rules}
 use Rattle.checking.proofs.check_prepared.Goals as goal
 
--- The rows that stand fit the buffers; what is after them is cleared.
 pub rows_standing-standing-requires : goal.rows_standing-standing-requires
 rows_standing-standing-requires c = let listed = c.list_kinds-ended in let s = stands _ _ _ _ listed.result listed.ensures in omega (arith, s.few, s.fits)
 

@@ -3,7 +3,6 @@ use native.Mathlib.Omega.{arith}
 use Rattle.checking.proofs.Sizes.{limit_few, wrong_limit, wrong_rows, wrong_words, none-wrong}
 use Rattle.checking.proofs.wrong_size.Goals as goal
 
--- Each test is that of its place, after those before it.
 pub returns-then-limit : goal.returns-then-limit
 returns-then-limit c = λ C. wrong_limit C c.args.limit c.args.rows c.args.words c.if-limit.true
 

@@ -1,8 +1,6 @@
 -- Invariant: the symbols before this one are closed. Measure: the symbols left.
-use Prim.Native.Nat.{◌-◌, ◌≤◌}
 use native.Mathlib.Omega.{arith}
-use Rattle.prepared.specs.Parts.{contract_in}
-use Rattle.closure.proofs.Verdicts.{ClosedBefore, closed_more, closed_all, told_inside, open_told}
+use Rattle.closure.proofs.Verdicts.{closed_more, closed_all, told_inside, open_told}
 use Rattle.closure.proofs.closure_of.Goals as goal
 
 pub loop-number-init : goal.loop-number-init

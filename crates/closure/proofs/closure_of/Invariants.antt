@@ -1,8 +1,7 @@
 -- Invariant: the symbols before this one are closed. Measure: the symbols left.
 use Prim.Native.Nat.{◌-◌, ◌≤◌}
-use native.Mathlib.Omega.{arith}
 use Rattle.prepared.specs.Parts.{contract_in}
-use Rattle.closure.proofs.Verdicts.{ClosedBefore, closed_more, closed_all, told_inside, open_told}
+use Rattle.closure.proofs.Verdicts.{ClosedBefore}
 use Rattle.closure.proofs.closure_of.Given as goal
 
 abbrev pub invariant-loop-number : goal.invariant-loop-number

@@ -1,10 +1,7 @@
 -- Invariant: nothing is missing over the left kinds before place i. Measure: the left kinds left.
 use mathlib.Core.Path.{refl}
-use Prim.Native.Nat.{◌-◌, ◌≤◌}
 use native.Mathlib.Omega.{arith}
-use lib.ListN.{length}
-use Rattle.prepared.specs.Parts.{contract_in}
-use Rattle.closure.proofs.Openings.{HeldTo, held_more, open_found}
+use Rattle.closure.proofs.Openings.{held_more, open_found}
 use Rattle.closure.proofs.closure_over.Goals as goal
 
 pub loop-i-init : goal.loop-i-init

@@ -1,10 +1,8 @@
 -- Invariant: nothing is missing over the left kinds before place i. Measure: the left kinds left.
-use mathlib.Core.Path.{refl}
 use Prim.Native.Nat.{◌-◌, ◌≤◌}
-use native.Mathlib.Omega.{arith}
 use lib.ListN.{length}
 use Rattle.prepared.specs.Parts.{contract_in}
-use Rattle.closure.proofs.Openings.{HeldTo, held_more, open_found}
+use Rattle.closure.proofs.Openings.{HeldTo}
 use Rattle.closure.proofs.closure_over.Given as goal
 
 abbrev pub invariant-loop-i : goal.invariant-loop-i

@@ -1,11 +1,9 @@
 -- Invariant: none is missing over the right kinds before place j. Measure: the right kinds left.
 use mathlib.Core.Path.{ap}
 use mathlib.Core.Bool.{not}
-use Prim.Native.Nat.{◌-◌, ◌≤◌}
 use native.Mathlib.Omega.{arith}
-use lib.ListN.{length}
 use Rattle.prepared.specs.Parts.{contract_in}
-use Rattle.closure.proofs.Openings.{NoneMissing, missing_here, none_missing_more, none_missing_all}
+use Rattle.closure.proofs.Openings.{missing_here, none_missing_more, none_missing_all}
 use Rattle.closure.proofs.first_open.Goals as goal
 
 pub loop-j-init : goal.loop-j-init

@@ -1,9 +1,8 @@
 -- Invariant: none is missing over the right kinds before place j. Measure: the right kinds left.
 use Prim.Native.Nat.{◌-◌, ◌≤◌}
-use native.Mathlib.Omega.{arith}
 use lib.ListN.{length}
 use Rattle.prepared.specs.Parts.{contract_in}
-use Rattle.closure.proofs.Openings.{NoneMissing, missing_here, none_missing_more, none_missing_all}
+use Rattle.closure.proofs.Openings.{NoneMissing}
 use Rattle.closure.proofs.first_open.Given as goal
 
 abbrev pub invariant-loop-j : goal.invariant-loop-j

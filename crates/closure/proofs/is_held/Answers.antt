@@ -2,10 +2,8 @@
 use native.Mathlib.Omega.{arith}
 use Rattle.kind_slots.proofs.Same.{padded_small}
 use Rattle.closure.proofs.Searching.{search_over}
-use borrow.Author.Rules.{rules}
 use Rattle.closure.proofs.is_held.Goals as goal
 
--- The two kinds are read as they were sent, and the list is searched for the kind of the symbol over them.
 pub kind_of-kind-requires : goal.kind_of-kind-requires
 kind_of-kind-requires c =
     let small = c.shared_slice_known-2-1.given in (

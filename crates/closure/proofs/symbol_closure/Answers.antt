@@ -1,10 +1,8 @@
 -- The first kinds of the classes on each side are gone through in pairs, and tell of all kinds.
 use native.Mathlib.Omega.{arith}
 use Rattle.closure.proofs.Classes.{class_firsts, class_count, class_numbers, tells_number, tells_symbol}
-use borrow.Author.Rules.{rules}
 use Rattle.closure.proofs.symbol_closure.Goals as goal
 
--- The first kinds of the classes on each side are gone through in pairs, and tell of all kinds.
 pub symbol_of-requires : goal.symbol_of-requires
 symbol_of-requires c = omega (arith, c.requires.4, c.requires.0.prepared.established.symbols.≤most)
 

@@ -8,7 +8,6 @@ use Rattle.reading.specs.Answers.{reading_verdict}
 use Rattle.comparing.proofs.Comparisons.{range_wrong, first_wrong, second_wrong, compared}
 use Rattle.comparing.proofs.compare.Goals as goal
 
--- What is read of each buffer decides, in the order of the tests.
 pub returns-then-symbols_wrong : goal.returns-then-symbols_wrong
 returns-then-symbols_wrong c =
     let both = range_wrong c.args.symbols c.args.first.now c.args.second.now (sym c.symbols_wrong.ensures ∙ c.if-symbols_wrong.true) in

@@ -5,7 +5,6 @@ use lib.Seq.{length-take-le}
 use Rattle.comparing.proofs.Comparisons.{there}
 use Rattle.comparing.proofs.shorter.Goals as goal
 
--- The stretch that comparing tells is taken out of its buffer, where it is.
 pub slice_bounds-result-end : goal.slice_bounds-result-end
 slice_bounds-result-end c =
     let args = c.args in

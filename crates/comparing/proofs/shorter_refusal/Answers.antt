@@ -3,7 +3,6 @@ use mathlib.Core.Path.{ap, sym, ◌∙◌}
 use Rattle.comparing.specs.Answers.{verdict_of}
 use Rattle.comparing.proofs.shorter_refusal.Goals as goal
 
--- What comparing refuses is told.
 pub returns-in-First : goal.returns-in-First
 returns-in-First c = sym (ap verdict_of c.in-First.is) ∙ c.compare.ensures.result_value
 

@@ -1,6 +1,5 @@
 -- The range is that of a contract's symbols.
 use Rattle.comparing.proofs.symbols_wrong.Goals as goal
 
--- The range is that of a contract's symbols.
 pub returns : goal.returns
 returns c = c.is_outside.ensures

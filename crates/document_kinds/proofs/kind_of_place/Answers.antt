@@ -5,7 +5,6 @@ use Rattle.model.proofs.Laws.Documents.{leaf_place}
 use Rattle.document_kinds.specs.Stored.{kind-words, kind_empty, children}
 use Rattle.document_kinds.proofs.kind_of_place.Goals as goal
 
--- At symbol 0 stands the empty forest; at another place its children's kinds are joined.
 pub returns-then-symbol-eq0 : goal.returns-then-symbol-eq0
 returns-then-symbol-eq0 c = c.requires.empty_value.0 ∙ kind_empty _ _ (leaf_place _ _ c.requires.ready.2 c.if-symbol-eq0.true)
 

@@ -7,11 +7,8 @@ use Rattle.admission.proofs.Answered.{admitted_fine, admitted_established}
 use Rattle.layouts.specs.Counts.{small-counts}
 use Rattle.preparing.specs.Packing.{room_enough}
 use Rattle.examining.proofs.Steps.{refused_contract, refused_length, examined_list, made_ready}
-use borrow.Author.Rules.{rules}
 use Rattle.examining.proofs.examine.Goals as goal
 
--- Each refusal is the definition's; where nothing is refused the contract is established, so that it can be prepared, and the list is examined
--- by it.
 pub returns-in-Refused : goal.returns-in-Refused
 returns-in-Refused c = (refused_contract _ _ c.in-Refused.fault (sym (ap admission_answer c.in-Refused.is) ∙ c.admit-admission.ensures), tt)
 

@@ -4,10 +4,8 @@ use mathlib.Core.Path.{ap, subst, sym, ◌∙◌}
 use native.Mathlib.Omega.{arith}
 use Rattle.closure.specs.Held.{ToldInside, closure_verdict}
 use Rattle.examining.proofs.Steps.{search_empty, told_missing, told_held, refused_empty, refused_open, refused_breaking, accepted_list}
-use borrow.Author.Rules.{rules}
 use Rattle.examining.proofs.examine_list.Goals as goal
 
--- The empty kind is sought, then the list is seen to be closed, then a breaking kind is sought: the first that fails is the answer.
 pub returns-then-not-is_shown : goal.returns-then-not-is_shown
 returns-then-not-is_shown c = (refused_empty _ _ (told_missing _ _ (search_empty _ c.requires.0.prepared.established _ _ _ c.empty_of-empty.result c.requires.1 c.empty_of-empty.ensures c.is_shown.ensures) (ap not c.if-not-is_shown.true)), tt)
 

@@ -1,10 +1,8 @@
 -- The kinds are put in chains by the contract's mask, which makes the list searchable.
 use native.Mathlib.Omega.{arith}
 use Rattle.examining.proofs.Steps.{mask-of}
-use borrow.Author.Rules.{rules}
 use Rattle.examining.proofs.examine_prepared.Goals as goal
 
--- The kinds are put in chains by the contract's mask, which makes the list searchable.
 pub examine_list-requires : goal.examine_list-requires
 examine_list-requires c = (
   c.requires.0,

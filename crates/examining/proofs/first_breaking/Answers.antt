@@ -1,11 +1,10 @@
 -- Invariant: no kind before k breaks the contract. Measure: the kinds left.
 use mathlib.Core.Path.{ap, sym, ◌∙◌}
 use mathlib.Core.List.{List}
-use Prim.Native.Nat.{ℕ, ◌-◌, ◌≤◌}
+use Prim.Native.Nat.{ℕ}
 use native.Mathlib.Omega.{arith}
-use borrow.Author.Rules.{rules}
 use Rattle.breaking.specs.Verdicts.{breaking}
-use Rattle.examining.proofs.Steps.{NoneBreaks, none_more, breaks_at, none_breaks}
+use Rattle.examining.proofs.Steps.{none_more, breaks_at, none_breaks}
 use Rattle.examining.proofs.first_breaking.Goals as goal
 
 pub loop-k-init : goal.loop-k-init

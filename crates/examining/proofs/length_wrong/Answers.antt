@@ -2,6 +2,5 @@
 use mathlib.Core.Path.{refl}
 use Rattle.examining.proofs.length_wrong.Goals as goal
 
--- The definition's two tests.
 pub returns : goal.returns
 returns c = refl

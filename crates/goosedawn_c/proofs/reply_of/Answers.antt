@@ -2,7 +2,6 @@
 use borrow.Author.Rules.{rules}
 use Rattle.goosedawn_c.proofs.reply_of.Goals as goal
 
--- Case by case: what the answer is known to be, and the reply made of its values.
 pub returns-in-Refused : goal.returns-in-Refused
 returns-in-Refused c = rw (c.in-Refused.is, c.reply_with.ensures)
 

@@ -2,7 +2,6 @@
 -- that the contract can be prepared and the document judged by it.
 use mathlib.Core.Path.{ap, sym, ◌∙◌}
 use native.Mathlib.Omega.{arith}
-use borrow.Author.Rules.{rules}
 use Rattle.model.specs.Tables.{Contract, contract}
 use Rattle.answers.specs.Numbers.{admission_answer}
 use Rattle.admission.proofs.Answered.{admitted_fine, admitted_established}
@@ -12,8 +11,6 @@ use Rattle.preparing.specs.Packing.{short, room_enough}
 use Rattle.judging.specs.Steps.{LetIn, document_in, refused_contract, refused_buffer, refused_document, judged_document}
 use Rattle.judging.proofs.judge.Goals as goal
 
--- Each refusal is the definition's; where nothing is refused the contract is established and the first numbers are a document, so
--- that the contract can be prepared and the document judged by it.
 pub returns-in-Refused : goal.returns-in-Refused
 returns-in-Refused c = refused_contract _ _ _ c.in-Refused.fault (sym (ap admission_answer c.in-Refused.is) ∙ c.admit-admission.ensures)
 

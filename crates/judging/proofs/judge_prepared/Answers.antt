@@ -1,9 +1,7 @@
 -- The kind is that of the document's tree; what it tells is the judgement.
-use borrow.Author.Rules.{rules}
 use Rattle.judging.specs.Steps.{comes_judged}
 use Rattle.judging.proofs.judge_prepared.Goals as goal
 
--- The kind is that of the document's tree; what it tells is the judgement.
 pub returns : goal.returns
 returns c =
     comes_judged _ _ _ _ _ _ _ c.requires.0.prepared.established c.requires.0.verdicts c.document_kind-words.ensures c.write_kind.ensures c.judgement_of-judgement.ensures

@@ -2,7 +2,6 @@
 use mathlib.Core.Path.{refl}
 use Rattle.judging.proofs.judgement_by.Goals as goal
 
--- By the two tests.
 pub returns-then-broken : goal.returns-then-broken
 returns-then-broken c = rw (c.if-takes.true, c.if-broken.true) refl
 

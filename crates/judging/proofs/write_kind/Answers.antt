@@ -1,10 +1,10 @@
 -- Invariant: the first i words are written. Measure: what is left of five.
-use mathlib.Core.Path.{◌≡◌, refl, ap, sym, ◌∙◌}
+use mathlib.Core.Path.{◌≡◌, ap, sym, ◌∙◌}
 use mathlib.Core.List.{List}
-use Prim.Native.Nat.{ℕ, ◌+◌, ◌-◌, ◌≤◌}
+use Prim.Native.Nat.{ℕ, ◌+◌}
 use native.Mathlib.Numerals.{add-one}
 use native.Mathlib.Omega.{arith}
-use lib.ListN.{length, get_or, set, take, length-set}
+use lib.ListN.{get_or, set, take, length-set}
 use lib.Seq.{paste, paste-zero, paste-suc, take-paste, take-length}
 use Rattle.judging.proofs.write_kind.Goals as goal
 

@@ -2,7 +2,6 @@
 use Rattle.kinds.proofs.Rounds.{leaf_made, empty_closed}
 use Rattle.kinds.proofs.empty_of.Goals as goal
 
--- What the empty forest makes is closed.
 pub with_stays-requires : goal.with_stays-requires
 with_stays-requires c = (c.requires, leaf_made _ c.leaf_kind-leaf.ensures)
 

@@ -2,7 +2,6 @@
 use Rattle.kinds.proofs.Rounds.{symbol_made, next_closed}
 use Rattle.kinds.proofs.kind_of.Goals as goal
 
--- What the symbol makes is closed.
 pub with_stays-requires : goal.with_stays-requires
 with_stays-requires c = (c.requires.0, symbol_made _ _ _ _ c.symbol_kind-made.ensures)
 

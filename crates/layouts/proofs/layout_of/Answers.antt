@@ -8,7 +8,6 @@ use Rattle.kind_words.specs.Kind.{lanes_fit}
 use Rattle.layouts.specs.LaneWords.{lanes_are, weight_some}
 use Rattle.layouts.proofs.layout_of.Goals as goal
 
--- At most four states and two parameters: lanes of at most sixteen bits. What is called gives the words of the layout.
 pub lane_of_ones-ones-requires : goal.lane_of_ones-ones-requires
 lane_of_ones-ones-requires c =
     let args = c.args in

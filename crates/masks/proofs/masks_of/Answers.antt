@@ -2,6 +2,5 @@
 use Rattle.masks.specs.Seen.{covered}
 use Rattle.masks.proofs.masks_of.Goals as goal
 
--- The two sides together.
 pub returns : goal.returns
 returns c = covered _ c.requires.prepared.established _ _ c.side_masks.ensures c.side_masks-2.ensures

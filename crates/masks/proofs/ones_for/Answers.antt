@@ -5,7 +5,6 @@ use native.Mathlib.Omega.{arith}
 use Rattle.masks.specs.Calls.{ones_double, ones_room, facts_between}
 use Rattle.masks.proofs.ones_for.Goals as goal
 
--- One less than the width is shifted, as the width may be 64; doubling and adding one makes up for it.
 pub overflow_sub-facts : goal.overflow_sub-facts
 overflow_sub-facts c = omega (arith, c.facts_of-facts.ensures, facts_between c.args.output_states c.args.count c.requires.0 c.requires.1 c.requires.2)
 

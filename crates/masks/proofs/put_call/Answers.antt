@@ -8,7 +8,6 @@ use Rattle.kind_words.specs.Blocks.{with_block}
 use Rattle.masks.specs.Calls.{ones_for, with_call}
 use Rattle.masks.proofs.put_call.Goals as goal
 
--- A node that calls on the side puts its procedure's ones; another node changes nothing.
 pub returns-then-node-side : goal.returns-then-node-side
 unfolding with_call
 returns-then-node-side c =

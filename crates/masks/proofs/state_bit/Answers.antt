@@ -5,7 +5,6 @@ use borrow.Author.Tests.{eq-eqb}
 use Rattle.masks.specs.Seen.{state_bit}
 use Rattle.masks.proofs.state_bit.Goals as goal
 
--- By the definition: the row is one for its own symbol.
 pub returns : goal.returns
 unfolding state_bit
 returns c =

@@ -7,7 +7,6 @@ use Rattle.merging_tests.specs.Answers.{test_verdict}
 use Rattle.merging.proofs.Results.{Handed, of_types, of_result, types_failed, types_known, few_states, result_failed, mergeable, few, good_first, good_second, both_written}
 use Rattle.merging.proofs.merge.Goals as goal
 
--- What the tests tell is refused, with nothing written; behind them both buffers are filled, and what stands in them is the merged type.
 pub returns-in-Failed : goal.returns-in-Failed
 returns-in-Failed c =
     let handed : Handed = let a = c.args in record { symbols = a.symbols; first = type_of a.states a.table.now a.marks.now; second_symbols = a.second_symbols; second = type_of a.second_states a.second_table.now a.second_marks.now; table_buffer = a.merged_table.now; marks_buffer = a.merged_marks.now } in types_failed handed _ _ (sym (ap test_verdict c.in-Failed.is) ∙ c.test_types-types.ensures)

@@ -4,7 +4,6 @@ use Rattle.model.proofs.Laws.Answers.{then_passed, then_refused}
 use Rattle.merging_tests.specs.Answers.{test_verdict}
 use Rattle.merging_tests.proofs.first_failed.Goals as goal
 
--- Behind a test that passed the second tells; a test that failed tells by itself.
 pub returns-in-Passed : goal.returns-in-Passed
 returns-in-Passed c = sym (then_passed _ _ (ap test_verdict c.in-Passed.is))
 

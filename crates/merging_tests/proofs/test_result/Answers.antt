@@ -4,7 +4,6 @@ use native.Mathlib.Omega.{arith}
 use Rattle.merging_tests.proofs.Tests.{too_many, no_table, no-marks, result_fits}
 use Rattle.merging_tests.proofs.test_result.Goals as goal
 
--- The tests in their order; behind that of the states the table's length can be computed.
 pub returns-then-states-gt4 : goal.returns-then-states-gt4
 returns-then-states-gt4 c = let args = c.args in sym (too_many args.symbols args.states args.table_room args.marks_room (omega arith))
 

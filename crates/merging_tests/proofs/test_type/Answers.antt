@@ -7,7 +7,6 @@ use Rattle.model.specs.Tables.{type_of}
 use Rattle.merging_tests.proofs.Tests.{few_entries, behind_nothing}
 use Rattle.merging_tests.proofs.test_type.Goals as goal
 
--- The tests go by place, so the first that fails has the lowest; behind them a search goes through table and marks.
 pub returns-then-is_outside : goal.returns-then-is_outside
 returns-then-is_outside c = λ number. sym (symbols_fault _ _ number (sym c.is_outside.ensures ∙ c.if-is_outside.true))
 

@@ -3,7 +3,6 @@ use native.Mathlib.Omega.{arith}
 use Rattle.lanes.proofs.Room.{times_fits, ones_less}
 use Rattle.node_words.proofs.call_word.Goals as goal
 
--- One answer for each count of parameters; an argument's word is read only where the procedure has that parameter.
 pub spread-requires : goal.spread-requires
 spread-requires c =
     let args = c.args in

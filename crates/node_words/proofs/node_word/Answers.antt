@@ -7,7 +7,6 @@ use Rattle.kind_words.specs.Listed.{step_of, step_parameter, step_output, step_c
 use Rattle.kind_words.specs.Fits.{is_call, output_fits, output_nodes}
 use Rattle.node_words.proofs.node_word.Goals as goal
 
--- By the node's tag; what a good node refers to and calls stands in its tables.
 pub returns-then-node-eq0 : goal.returns-then-node-eq0
 returns-then-node-eq0 c = c.parameter_word.ensures ∙ sym (ap (step_of _ _ _ _ _ _ _) (sym c.node_at-node.ensures) ∙ step_parameter _ _ _ _ _ _ _ (node_of c.node_at-node.result) c.if-node-eq0.true)
 

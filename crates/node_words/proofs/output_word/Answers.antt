@@ -5,7 +5,6 @@ use borrow.Author.Tests.{ne_eqb}
 use Rattle.lanes.proofs.Room.{put_fits, ones_less}
 use Rattle.node_words.proofs.output_word.Goals as goal
 
--- A state's place fits into the word, and a symbol's states stand in the table; a node's word is read only where it is used.
 pub at_state-requires : goal.at_state-requires
 at_state-requires c =
     let layout = c.args.layout in

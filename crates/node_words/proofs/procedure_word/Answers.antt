@@ -5,7 +5,6 @@ use native.Mathlib.Omega.{arith}
 use Rattle.lanes.proofs.Room.{power_small, pow_some}
 use Rattle.node_words.proofs.procedure_word.Goals as goal
 
--- A procedure has at most sixteen assignments, so that its lanes fit; what it calls gives the rest.
 pub lane_of_ones-requires : goal.lane_of_ones-requires
 lane_of_ones-requires c =
     let args = c.args in

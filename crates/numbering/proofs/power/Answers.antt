@@ -3,6 +3,5 @@ use native.Mathlib.Omega.{arith}
 use Rattle.numbering.proofs.PowerTable.{power_is}
 use Rattle.numbering.proofs.power.Goals as goal
 
--- `power` reads the entry of O and the exponent, which the test over the table makes their power.
 pub returns : goal.returns
 returns c = power_is c.powers-table.result c.powers-table.ensures _ _ _ (omega arith) (omega arith) (omega arith)

@@ -7,8 +7,6 @@ use Rattle.plans.proofs.Laying.{laid}
 use borrow.Author.Rules.{rules}
 use Rattle.plans.proofs.fill_plan.Goals as goal
 
--- `plans::fill_plan` meets its contract: each copy keeps the table's length and what stands below it, and `laid` puts the five and the two
--- numbers behind them together.
 pub returns : goal.returns
 returns c =
     let sides-size : length c.sides-first_sides.result ≡ entries = search rules in

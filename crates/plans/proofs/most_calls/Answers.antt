@@ -3,7 +3,6 @@ use native.Mathlib.Omega.{arith}
 use Rattle.plans.proofs.Limits.{most_flagged, most_not_flagged}
 use Rattle.plans.proofs.most_calls.Goals as goal
 
--- `plans::most_calls` meets its contract, by whether the flag is 1.
 pub returns-then-plan-eq1 : goal.returns-then-plan-eq1
 returns-then-plan-eq1 c = omega (arith, most_flagged c.args.plan.now c.if-plan-eq1.true)
 

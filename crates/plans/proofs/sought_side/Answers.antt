@@ -5,7 +5,6 @@ use Rattle.plans.specs.Plans.{plan_side}
 use Rattle.plans.proofs.Seeking.{own_sought, stay_sought}
 use Rattle.plans.proofs.sought_side.Goals as goal
 
--- `plans::sought_side` meets its contract, by whether the symbol's own right side is a node.
 pub returns-then-side-lt-MOST_NODES : goal.returns-then-side-lt-MOST_NODES
 returns-then-side-lt-MOST_NODES c =
     let s = c.args in

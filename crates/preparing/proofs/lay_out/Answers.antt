@@ -11,7 +11,6 @@ use Rattle.prepared.specs.Parts.{part}
 use Rattle.preparing.specs.Packing.{rounds_by, laid_out, part_put, length_part}
 use Rattle.preparing.proofs.lay_out.Goals as goal
 
--- The tables are packed, the lists written behind them leave them as they are.
 pub fill_lists-requires : goal.fill_lists-requires
 fill_lists-requires c =
     let packs = c.pack-ends.ensures in

@@ -2,7 +2,6 @@
 use Rattle.preparing.specs.Packing.{packed}
 use Rattle.preparing.proofs.pack.Goals as goal
 
--- Each table behind the ones before it.
 pub returns : goal.returns
 returns c =
     packed _ c.append-a.ensures c.append-b.ensures c.append-c.ensures c.append-d.ensures c.append-e.ensures c.append-f.ensures c.append-g.ensures

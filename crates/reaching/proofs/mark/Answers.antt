@@ -2,7 +2,6 @@
 use Rattle.reaching.specs.Marks.{marked_if}
 use Rattle.reaching.proofs.mark.Goals as goal
 
--- Both sides of the test.
 pub returns-then-used : goal.returns-then-used
 unfolding marked_if
 returns-then-used c = rw (c.if-used.true, c.place.ensures)

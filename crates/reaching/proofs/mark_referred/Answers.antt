@@ -5,7 +5,6 @@ use Rattle.model.specs.Admission.{references}
 use Rattle.reaching.specs.Marks.{referred_taken, referred_kept}
 use Rattle.reaching.proofs.mark_referred.Goals as goal
 
--- What a good node refers to is below it, and so has a mark; a node that is not marked changes nothing.
 pub returns-then-marks-n-eq1 : goal.returns-then-marks-n-eq1
 returns-then-marks-n-eq1 c =
     let args = c.args in

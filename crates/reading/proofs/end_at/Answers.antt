@@ -8,8 +8,6 @@ use Rattle.model.proofs.Laws.Documents.{leaf_end}
 use Rattle.reading.proofs.Ends.{Known, known}
 use Rattle.reading.proofs.end_at.Goals as goal
 
--- `reading::end_at` meets its contract: symbol 0 takes one number; another place ends where its right child does, which
--- starts where the left one ends.
 pub returns-then-numbers-i-eq0 : goal.returns-then-numbers-i-eq0
 returns-then-numbers-i-eq0 c = sym (leaf_end _ _ c.requires.i_in_bounds.0 c.if-numbers-i-eq0.true)
 

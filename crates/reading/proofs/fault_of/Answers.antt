@@ -3,7 +3,6 @@ use native.Mathlib.Omega.{arith}
 use Rattle.reading.proofs.Verdicts.{too_long, fault_there}
 use Rattle.reading.proofs.fault_of.Goals as goal
 
--- By its one test, which parts 11 from 12.
 pub returns-then-place-length : goal.returns-then-place-length
 returns-then-place-length c = too_long _ _ _ (omega arith) c.if-place-length.true
 

@@ -4,7 +4,6 @@ use Rattle.reading.specs.Answers.{leading_of}
 use Rattle.reading.proofs.Verdicts.{tree_there, verdict_begins, taken_begins}
 use Rattle.reading.proofs.read.Goals as goal
 
--- What is refused and what is taken follow from what the numbers looked at begin with.
 pub returns-in-Ends : goal.returns-in-Ends
 returns-in-Ends c =
     let looked = c.looked_at-end.ensures in

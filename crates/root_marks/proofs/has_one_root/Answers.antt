@@ -3,7 +3,6 @@ use Rattle.model.specs.Kinds.{marks_in}
 use Rattle.root_marks.proofs.MarkBits.{bit_tested}
 use Rattle.root_marks.proofs.has_one_root.Goals as goal
 
--- The bit as it is tested.
 pub returns : goal.returns
 unfolding marks_in
 returns c = bit_tested _ 32

@@ -2,7 +2,6 @@
 use borrow.Author.Tests.{lt-ltb, le-ltb}
 use Rattle.round_pairs.proofs.first_right.Goals as goal
 
--- By the two arms of the test.
 pub returns-then-left-before : goal.returns-then-left-before
 returns-then-left-before c = rw (lt-ltb c.args.left c.args.before c.if-left-before.true)
 

@@ -1,13 +1,9 @@
 -- Invariant: the loops stand at a left row. Measure: the left rows left.
-use mathlib.Core.Path.{refl, sym, ◌∙◌}
-use Prim.Native.Nat.{◌-◌, ◌≤◌}
+use mathlib.Core.Path.{refl}
 use native.Mathlib.Omega.{arith}
-use borrow.Author.Rules.{rules}
-use Rattle.prepared.specs.Parts.{contract_in}
-use Rattle.kind_lists.proofs.Stops.{ends, goes}
-use Rattle.round_pairs.specs.Steps.{At, pass_lefts, pass_rights, begin_right, next_symbol}
-use Rattle.round_pairs.proofs.Visits.{at_room, at_stood, at_right, at_lengths}
-use borrow.Author.Rules.{rules}
+use Rattle.kind_lists.proofs.Stops.{goes}
+use Rattle.round_pairs.specs.Steps.{pass_lefts, pass_rights, begin_right, next_symbol}
+use Rattle.round_pairs.proofs.Visits.{at_stood}
 use Rattle.round_pairs.proofs.left_rows.Goals as goal
 
 pub next_marked-requires : goal.next_marked-requires

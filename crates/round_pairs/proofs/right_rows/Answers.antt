@@ -1,11 +1,8 @@
 -- Invariant: the loops stand at a right row. Measure: the right rows left.
-use mathlib.Core.Path.{sym, ◌∙◌}
-use Prim.Native.Nat.{◌-◌, ◌≤◌}
 use native.Mathlib.Omega.{arith}
-use Rattle.prepared.specs.Parts.{contract_in}
-use Rattle.kind_lists.proofs.Stops.{ends, goes}
-use Rattle.round_pairs.specs.Steps.{At, pass_rights, next_left}
-use Rattle.round_pairs.proofs.Visits.{at_room, at_stood, at_lengths}
+use Rattle.kind_lists.proofs.Stops.{goes}
+use Rattle.round_pairs.specs.Steps.{pass_rights, next_left}
+use Rattle.round_pairs.proofs.Visits.{at_stood}
 use Rattle.round_pairs.proofs.right_rows.Goals as goal
 
 pub next_marked-right-requires : goal.next_marked-right-requires

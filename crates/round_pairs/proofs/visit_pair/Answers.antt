@@ -1,10 +1,8 @@
 -- The rows of the round stand in the buffers; what the offer comes to is one step of the round.
 use native.Mathlib.Omega.{arith}
-use Rattle.round_pairs.proofs.Visits.{padded_words, at_room, row_room, visit-pair}
-use borrow.Author.Rules.{rules}
+use Rattle.round_pairs.proofs.Visits.{at_room, row_room, visit-pair}
 use Rattle.round_pairs.proofs.visit_pair.Goals as goal
 
--- The rows of the round stand in the buffers; what the offer comes to is one step of the round.
 pub kind_at-left_kind-requires : goal.kind_at-left_kind-requires
 kind_at-left_kind-requires c = (row_room c.requires.1 _ c.requires.3).0
 

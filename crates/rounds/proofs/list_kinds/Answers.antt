@@ -3,10 +3,8 @@ use borrow.Enum.Refused.{opened}
 use Rattle.kind_slots.proofs.Finding.{none_entered}
 use Rattle.kind_lists.proofs.Stops.{list_ends_first, goes}
 use Rattle.rounds.proofs.Laps.{list_ends_as}
-use borrow.Author.Rules.{rules}
 use Rattle.rounds.proofs.list_kinds.Goals as goal
 
--- Where round 0 tells the answer, it is the answer; else the rounds go on from it.
 pub first_round-step-requires : goal.first_round-step-requires
 first_round-step-requires c = (c.requires.0, c.requires.2, none_entered _)
 

@@ -1,11 +1,9 @@
 -- Invariant: the loops stand before the symbol. Measure: the symbols left.
 use borrow.Enum.Refused.{opened}
 use mathlib.Core.Path.{refl, sym, ◌∙◌}
-use Prim.Native.Nat.{◌-◌, ◌≤◌}
 use native.Mathlib.Omega.{arith}
-use Rattle.prepared.specs.Parts.{contract_in}
 use Rattle.kind_lists.proofs.Stops.{ends, goes}
-use Rattle.round_pairs.specs.Steps.{At, pass_lefts}
+use Rattle.round_pairs.specs.Steps.{pass_lefts}
 use Rattle.round_pairs.proofs.Visits.{at_room, at_stood, at_lengths}
 use Rattle.rounds.proofs.Laps.{at_symbol, first_below}
 use Rattle.rounds.proofs.one_round.Goals as goal

@@ -1,10 +1,8 @@
 -- Invariant: a mark that is missing below `number` means an earlier row that agrees. Measure: the symbols left.
-use mathlib.Core.Path.{◌≡◌, subst}
-use mathlib.Core.Bool.{false}
+use mathlib.Core.Path.{subst}
 use mathlib.Core.List.{List}
-use Prim.Native.Nat.{ℕ, ◌-◌, ◌≤◌, ◌<◌}
+use Prim.Native.Nat.{ℕ}
 use native.Mathlib.Omega.{arith}
-use Rattle.foundation.specs.Words.{bit}
 use Rattle.kind_slots.specs.Stored.{padded_kind}
 use Rattle.row_marks.specs.Marks.{SomeEarlier}
 use Rattle.row_marks.proofs.MarkBits.{marks_more}

@@ -1,13 +1,10 @@
 -- Invariant: a mark that is missing below `number` means an earlier row that agrees. Measure: the symbols left.
-use mathlib.Core.Path.{◌≡◌, subst}
+use mathlib.Core.Path.{◌≡◌}
 use mathlib.Core.Bool.{false}
-use mathlib.Core.List.{List}
 use Prim.Native.Nat.{ℕ, ◌-◌, ◌≤◌, ◌<◌}
-use native.Mathlib.Omega.{arith}
 use Rattle.foundation.specs.Words.{bit}
 use Rattle.kind_slots.specs.Stored.{padded_kind}
 use Rattle.row_marks.specs.Marks.{SomeEarlier}
-use Rattle.row_marks.proofs.MarkBits.{marks_more}
 use Rattle.row_marks.proofs.first_symbols.Given as goal
 
 abbrev pub invariant-loop-number : goal.invariant-loop-number

@@ -2,13 +2,7 @@
 -- is found. Measure: the rows left.
 use mathlib.Core.Path.{◌≡◌}
 use Prim.Native.Nat.{◌≤◌, ◌-◌}
-use native.Mathlib.Omega.{arith}
-use lib.ListN.{get_or}
-use Rattle.foundation.specs.Words.{bit}
 use Rattle.row_marks.specs.Marks.{shown}
-use Rattle.row_marks.proofs.MarkBits.{earlier_row, true_not_false}
-use borrow.Author.Rules.{rules}
-use borrow.Author.Rules.{rules}
 use Rattle.row_marks.proofs.is_first.Given as goal
 
 abbrev pub invariant-loop-i : goal.invariant-loop-i

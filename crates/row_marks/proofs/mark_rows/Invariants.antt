@@ -1,8 +1,6 @@
 -- Invariant: the rows from `from` to j are marked. Measure: the rows left.
 use Prim.Native.Nat.{◌-◌, ◌≤◌}
-use native.Mathlib.Omega.{arith}
 use Rattle.row_marks.specs.Marks.{MarkedFrom}
-use Rattle.row_marks.proofs.MarkBits.{none_marked, marked_more, all_marked}
 use Rattle.row_marks.proofs.mark_rows.Given as goal
 
 abbrev pub invariant-loop-j : goal.invariant-loop-j

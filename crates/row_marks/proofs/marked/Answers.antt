@@ -3,7 +3,6 @@ use Rattle.foundation.specs.Words.{bit}
 use borrow.Author.Rules.{rules}
 use Rattle.row_marks.proofs.marked.Goals as goal
 
--- A bit is a shift's last one.
 pub returns : goal.returns
 unfolding bit
 returns c = search rules

@@ -1,11 +1,9 @@
 -- Invariant: the rows from the start to i are not marked. Measure: the rows left.
-use mathlib.Core.Path.{◌≡◌, sym, ◌∙◌}
+use mathlib.Core.Path.{◌≡◌}
 use mathlib.Core.Bool.{false}
 use Prim.Native.Nat.{ℕ, ◌-◌, ◌≤◌, ◌<◌}
-use native.Mathlib.Omega.{arith}
 use lib.ListN.{get_or}
 use Rattle.foundation.specs.Words.{bit}
-use Rattle.row_marks.proofs.MarkBits.{passed_more}
 use Rattle.row_marks.proofs.next_marked.Given as goal
 
 abbrev pub invariant-loop-i : goal.invariant-loop-i

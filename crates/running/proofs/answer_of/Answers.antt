@@ -1,7 +1,6 @@
 -- `running::answer_of` meets its contract, case by case.
 use Rattle.running.proofs.answer_of.Goals as goal
 
--- `running::answer_of` meets its contract, case by case.
 pub returns-in-Root : goal.returns-in-Root
 returns-in-Root c = rw (c.in-Root.is, c.wide.ensures, c.wide-in-Root.ensures)
 

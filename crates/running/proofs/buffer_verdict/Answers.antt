@@ -3,7 +3,6 @@ use mathlib.Core.Path.{sym}
 use Rattle.model.proofs.Laws.Answers.{refuse_if_refused, refuse_if_passed}
 use Rattle.running.proofs.buffer_verdict.Goals as goal
 
--- `running::buffer_verdict` meets its contract: its test is the definition's.
 pub returns-then-lent : goal.returns-then-lent
 returns-then-lent c = sym (refuse_if_refused _ 9 0 c.if-lent.true)
 

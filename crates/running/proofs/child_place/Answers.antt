@@ -3,7 +3,6 @@ use native.Mathlib.Omega.{arith}
 use borrow.Author.Tests.{eq-eqb, ne_eqb}
 use Rattle.running.proofs.child_place.Goals as goal
 
--- `running::child_place` meets its contract, for the node itself and for either child.
 pub returns-then-child-eq0 : goal.returns-then-child-eq0
 returns-then-child-eq0 c = rw (eq-eqb c.args.child 0 (omega arith))
 

@@ -3,7 +3,6 @@ use mathlib.Core.Path.{ap, sym}
 use Rattle.reading.specs.Answers.{reading_verdict}
 use Rattle.running.proofs.document_verdict.Goals as goal
 
--- `running::document_verdict` meets its contract: its verdict is that of the reading.
 pub returns-in-Takes : goal.returns-in-Takes
 returns-in-Takes c = sym (ap reading_verdict c.in-Takes.is)
 

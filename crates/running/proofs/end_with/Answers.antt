@@ -1,7 +1,6 @@
 -- `running::end_with` meets its contract, case by case.
 use Rattle.running.proofs.end_with.Goals as goal
 
--- `running::end_with` meets its contract, case by case.
 pub returns-in-Made : goal.returns-in-Made
 returns-in-Made c = rw c.in-Made.is
 

@@ -6,7 +6,6 @@ use Rattle.running.specs.Work.{verdict_of}
 use Rattle.running.proofs.Admitting.{refused_first}
 use Rattle.running.proofs.first_refusal.Goals as goal
 
--- `running::first_refusal` meets its contract: the first verdict, or the next where that is fine.
 pub returns-in_default : goal.returns-in_default
 returns-in_default c = refused_first c.args.one (verdict_of c.args.next) (opened c.in_default.in_default-own.keys2)
 

@@ -2,6 +2,5 @@
 use mathlib.Core.Path.{refl}
 use Rattle.running.proofs.fresh_tally.Goals as goal
 
--- `running::fresh_tally` meets its contract: no rows and no calls.
 pub returns : goal.returns
 returns c = refl

@@ -4,7 +4,6 @@ use mathlib.Core.Path.{sym}
 use Rattle.running.proofs.Closing.{refused-keeps}
 use Rattle.running.proofs.numbers_kept.Goals as goal
 
--- `running::numbers_kept` meets its contract: a refusal keeps nothing.
 pub returns-in_default : goal.returns-in_default
 returns-in_default c = sym (refused-keeps c.args.end c.args.tally (opened c.in_default.in_default-own.keys2))
 

@@ -3,7 +3,6 @@ use borrow.Author.Tests.{eq-eqb, ne_eqb}
 use Rattle.running.specs.Work.{plan_operands}
 use Rattle.running.proofs.operand_count.Goals as goal
 
--- `running::operand_count` meets its contract, by the node's tag and name.
 pub returns-then-node-eq0 : goal.returns-then-node-eq0
 unfolding plan_operands
 returns-then-node-eq0 c = rw (eq-eqb _ _ c.if-node-eq1.true, eq-eqb _ _ c.if-node-eq0.true)

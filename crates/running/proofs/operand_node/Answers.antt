@@ -2,7 +2,6 @@
 use borrow.Author.Tests.{eq-eqb, ne_eqb}
 use Rattle.running.proofs.operand_node.Goals as goal
 
--- `running::operand_node` meets its contract, for either operand.
 pub returns-then-number-eq1 : goal.returns-then-number-eq1
 returns-then-number-eq1 c = rw (eq-eqb _ _ c.if-number-eq1.true) c.wide.ensures
 

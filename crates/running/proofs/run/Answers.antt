@@ -6,8 +6,6 @@ use Rattle.answers.specs.Numbers.{admission_answer}
 use Rattle.running.proofs.Admitting.{contract_refused, tables_known, contract_run}
 use Rattle.running.proofs.run.Goals as goal
 
--- `running::run` meets its contract: a contract that is refused ends the run, and one that is admitted is known to satisfy what
--- the rest asks for.
 pub returns-in-Refused : goal.returns-in-Refused
 returns-in-Refused c =
     let s = c.args in

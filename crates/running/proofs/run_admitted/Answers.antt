@@ -11,7 +11,6 @@ use Rattle.running.specs.Promises.{before_work}
 use Rattle.running.proofs.Admitting.{buffer_refused, document_refused, rows_few, taken_there, taken_read, document_run}
 use Rattle.running.proofs.run_admitted.Goals as goal
 
--- `running::run_admitted` meets its contract: what follows from each verdict before the work.
 pub slice_bounds-run_document-end : goal.slice_bounds-run_document-end
 slice_bounds-run_document-end c =
     let handed : Transformation = let s = c.args in transformation_of s.symbols s.counts.now s.nodes.now s.rules.now in

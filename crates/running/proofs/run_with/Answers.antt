@@ -10,8 +10,6 @@ use Rattle.running.specs.Work.{numbers_kept, end_answer}
 use Rattle.running.proofs.Closing.{callable, closes}
 use Rattle.running.proofs.run_with.Goals as goal
 
--- `running::run_with` meets its contract: the plan of the filled ends may be called, the outcome of calling procedure 0 at
--- place 0 is the run's step, and clearing and answering are what closing does with it.
 pub start_anew-work-requires : goal.start_anew-work-requires
 start_anew-work-requires c =
     (callable c.requires.0 c.requires.1 c.fill_ends.ensures c.fill_plan.ensures, c.requires.3)

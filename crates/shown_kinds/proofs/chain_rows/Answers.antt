@@ -1,10 +1,6 @@
 -- Invariant: the first k rows are in chains, with the first of those that look the same in front of the buffer. Measure: the rows left.
-use mathlib.Core.Path.{◌≡◌, subst}
-use Prim.Native.Nat.{ℕ, ◌-◌, ◌/◌, ◌≤◌}
 use native.Mathlib.Omega.{arith}
-use lib.ListN.{length}
-use Rattle.shown_kinds.specs.Chains.{PutInChains}
-use Rattle.shown_kinds.proofs.Firsts.{none_put, one_more}
+use Rattle.shown_kinds.proofs.Firsts.{none_put}
 use Rattle.shown_kinds.proofs.chain_rows.Goals as goal
 
 pub loop-k-init : goal.loop-k-init

@@ -1,9 +1,5 @@
 -- Invariant: the entries below i are 0. Measure: the entries left.
-use mathlib.Core.Path.{refl, ◌∙◌}
 use Prim.Native.Nat.{◌-◌}
-use native.Mathlib.Omega.{arith}
-use lib.ListN.{length-set}
-use Rattle.foundation.specs.Lists.{filled_more}
 use Rattle.shown_kinds.specs.Chains.{NoRows}
 use Rattle.shown_kinds.proofs.clear_fronts.Given as goal
 

@@ -1,8 +1,6 @@
 -- Invariant: a row below the entry looks so exactly if one below `next` does, and `next` is an entry of the chain. Measure: `next`, as the
 -- row behind a row comes before it.
-use mathlib.Core.Path.{◌≡◌, refl, subst, sym, ◌∙◌}
-use native.Mathlib.Omega.{arith}
-use Rattle.shown_kinds.proofs.Latest.{Reached, reached_row, reached_behind, reached_end}
+use Rattle.shown_kinds.proofs.Latest.{Reached}
 use Rattle.shown_kinds.proofs.is_in_chain.Given as goal
 
 abbrev pub invariant-loop-next : goal.invariant-loop-next

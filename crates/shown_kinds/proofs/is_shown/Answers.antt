@@ -5,7 +5,6 @@ use Rattle.shown_kinds.proofs.Latest.{remainder_below, front_of, front_asked}
 use borrow.Author.Rules.{rules}
 use Rattle.shown_kinds.proofs.is_shown.Goals as goal
 
--- The search of the chain that the remainder tells.
 pub place_at-front-requires : goal.place_at-front-requires
 place_at-front-requires c = omega (arith, remainder_below _ c.remainder_of.ensures)
 

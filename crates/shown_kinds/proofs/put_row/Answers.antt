@@ -2,10 +2,8 @@
 use native.Mathlib.Omega.{arith}
 use Rattle.shown_kinds.proofs.Latest.{remainder_small, front_of}
 use Rattle.shown_kinds.proofs.Firsts.{one_put}
-use borrow.Author.Rules.{rules}
 use Rattle.shown_kinds.proofs.put_row.Goals as goal
 
--- The row is sought in its chain, then put in front of it and noted, if it looks like no row there.
 pub place_at-front-requires : goal.place_at-front-requires
 place_at-front-requires c = omega (arith, c.remainder_of-remainder.ensures, remainder_small c.shown_at-seen.result, c.requires.0.long)
 

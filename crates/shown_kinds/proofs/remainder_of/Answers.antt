@@ -1,10 +1,8 @@
 -- The definition, on the words of the code.
 use Rattle.shown_kinds.specs.Chains.{remainder_of}
 use mathlib.Core.Path.{refl}
-use borrow.Author.Rules.{rules}
 use Rattle.shown_kinds.proofs.remainder_of.Goals as goal
 
--- The definition, on the words of the code.
 pub returns : goal.returns
 unfolding remainder_of
 returns c = refl

@@ -4,7 +4,6 @@ use Rattle.model.specs.Tables
 use Rattle.kind_words.specs.Rules.{rule_added}
 use Rattle.symbol_kinds.proofs.add_rule.Goals as goal
 
--- The rule puts its block at its procedure's offset.
 pub returns : goal.returns
 returns c =
     let p = ap (λ (x : Tables.Rule). x.procedure) c.rule_at-rule.ensures in

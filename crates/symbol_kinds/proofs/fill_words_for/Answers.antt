@@ -3,7 +3,6 @@ use native.Mathlib.Omega.{arith}
 use Rattle.kind_words.specs.Fits.{nodes_fit}
 use Rattle.symbol_kinds.proofs.fill_words_for.Goals as goal
 
--- A prepared contract has a list of nodes for each symbol.
 pub fill_words-requires : goal.fill_words-requires
 fill_words-requires c =
     let made = c.requires.0.prepared in

@@ -4,7 +4,6 @@ use Rattle.model.specs.Tables
 use Rattle.kind_words.specs.States.{row_taken}
 use Rattle.symbol_kinds.proofs.row_state.Goals as goal
 
--- A row's states are few, so that its bits fit.
 pub returns : goal.returns
 returns c =
     let args = c.args in

@@ -5,7 +5,6 @@ use native.Mathlib.Omega.{arith}
 use Rattle.lanes.proofs.Room.{power_small, pow_some, quotient}
 use Rattle.symbol_kinds.proofs.rule_block.Goals as goal
 
--- A procedure's lanes are at least one bit and at most the width, so that the step between the bits taken is not 0.
 pub nonzero_div-layout : goal.nonzero_div-layout
 nonzero_div-layout c =
     let args = c.args in

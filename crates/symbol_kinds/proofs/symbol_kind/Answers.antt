@@ -6,7 +6,6 @@ use Rattle.kind_words.specs.Marked.{first_marked, symbol_marked, unmarked_small}
 use Rattle.kind_words.specs.Ends.{kind_five}
 use Rattle.symbol_kinds.proofs.symbol_kind.Goals as goal
 
--- The kind without its marks, and the marks that the right kind gives.
 pub marked_over-requires : goal.marked_over-requires
 marked_over-requires c =
     rw c.unmarked_kind-kind.ensures (unmarked_small _ c.requires.0.prepared.established.input_states.≤most c.args.symbol.0 c.args.left.now c.args.right.now)

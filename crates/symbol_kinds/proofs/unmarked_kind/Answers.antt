@@ -4,7 +4,6 @@ use native.Mathlib.Omega.{arith}
 use Rattle.kind_words.specs.Kind.{kind_steps, kind_form_is}
 use Rattle.symbol_kinds.proofs.unmarked_kind.Goals as goal
 
--- What is called gives the table form of the kind step by step; the table form is the kind without its marks.
 pub returns : goal.returns
 returns c =
     let made = c.requires.0.prepared in

@@ -5,7 +5,6 @@ use Rattle.worked.specs.Lines.{checks_of_c1, runs_of_c2, judgings_of_c1, lines_o
 use borrow.Author.Rules.{rules}
 use Rattle.worked.proofs.worked.Goals as goal
 
--- `worked` meets its contract: part behind part.
 pub returns : goal.returns
 unfolding worked_lines
 returns c =

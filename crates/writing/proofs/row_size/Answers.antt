@@ -8,8 +8,6 @@ use Rattle.tables.specs.Tuples.{row_of}
 use Rattle.writing.proofs.Children.{Children, Sized, size_leaf, children, sized}
 use Rattle.writing.proofs.row_size.Goals as goal
 
--- `writing::row_size` meets its contract: the table holds the children's sizes, each at most `most`, so that their sum does
--- not wrap; cut at `most` it is the row's.
 pub returns-then-row-eq0 : goal.returns-then-row-eq0
 returns-then-row-eq0 c =
     let a = c.args in

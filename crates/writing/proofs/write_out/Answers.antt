@@ -5,8 +5,6 @@ use native.Mathlib.Omega.{arith}
 use Rattle.writing.proofs.Answers.{Ready, ready, row_few, wrong_length, wrong_row, no_row, no_room, fits, all_written}
 use Rattle.writing.proofs.write_out.Goals as goal
 
--- `writing::write_out` meets its contract: each answer is the one that the tests before it lead to in the definition.
--- The tree's size, counted no further than one above the room, tells whether the tree fits.
 pub returns-then-rows_wrong : goal.returns-then-rows_wrong
 returns-then-rows_wrong c = wrong_length _ _ _ (sym c.rows_wrong.ensures ∙ c.if-rows_wrong.true)
 

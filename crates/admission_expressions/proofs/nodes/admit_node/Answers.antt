@@ -3,7 +3,6 @@ use mathlib.Core.Path.{◌∙◌}
 use Rattle.model.specs.Admission.{node_fault}
 use Rattle.admission_expressions.proofs.nodes.admit_node.Goals as goal
 
--- `admit_node`: the definition is the first fault of its five tests.
 pub returns : goal.returns
 unfolding node_fault
 returns c =

@@ -2,7 +2,6 @@
 use Rattle.model.specs.Answers.{refuse_if, ◌then◌, given}
 use Rattle.admission_expressions.proofs.nodes.first_fault.Goals as goal
 
--- `first_fault`: the verdict goes through the same tests in the same order.
 pub returns-then-tag : goal.returns-then-tag
 unfolding refuse_if ◌then◌ given
 returns-then-tag c = rw c.if-tag.true

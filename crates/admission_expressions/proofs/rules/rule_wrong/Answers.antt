@@ -3,7 +3,6 @@ use Rattle.tables.specs.Tuples.{rule_of}
 use Rattle.admission_expressions.proofs.NodeUses.{rule_by_tables}
 use Rattle.admission_expressions.proofs.rules.rule_wrong.Goals as goal
 
--- `rule_wrong` is its definition, with what a node uses read from the tables: `rule_by_tables`.
 pub returns : goal.returns
 returns c =
     rw (

@@ -1,10 +1,8 @@
 -- A refusal has its number and place; other answers refuse nothing.
 use borrow.Enum.Refused.{opened}
 use Rattle.examining.proofs.Answers.{no_refusal}
-use borrow.Author.Rules.{rules}
 use Rattle.examining.proofs.refusals.of_answer.Goals as goal
 
--- A refusal has its number and place; other answers refuse nothing.
 pub returns-in-Refused : goal.returns-in-Refused
 returns-in-Refused c = rw (c.in-Refused.is, c.refuse_with.ensures)
 

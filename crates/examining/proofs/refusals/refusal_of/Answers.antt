@@ -1,8 +1,6 @@
 -- Each case has its number and its place.
-use borrow.Author.Rules.{rules}
 use Rattle.examining.proofs.refusals.refusal_of.Goals as goal
 
--- Each case has its number and its place.
 pub returns-in-Accepted : goal.returns-in-Accepted
 returns-in-Accepted c = rw (c.in-Accepted.is, c.refuse_with.ensures)
 

@@ -4,7 +4,6 @@ use borrow.Author.Rules.{rules}
 use Rattle.goosedawn_c.specs.MergeReplies.{merging_reply}
 use Rattle.goosedawn_c.proofs.merge.goosedawn_merge.Goals as goal
 
--- The reply is made of what merging promises, which leaves both buffers as they are to be.
 pub returns : goal.returns
 returns c =
     let (answered, table, marks) = c.merge-answer.ensures in

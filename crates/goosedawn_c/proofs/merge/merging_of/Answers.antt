@@ -2,7 +2,6 @@
 use borrow.Author.Rules.{rules}
 use Rattle.goosedawn_c.proofs.merge.merging_of.Goals as goal
 
--- Each answer has its reply.
 pub returns-in-Merged : goal.returns-in-Merged
 returns-in-Merged c = rw c.in-Merged.is
 

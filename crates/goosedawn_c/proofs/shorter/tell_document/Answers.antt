@@ -2,7 +2,6 @@
 use borrow.Author.Rules.{rules}
 use Rattle.goosedawn_c.proofs.shorter.tell_document.Goals as goal
 
--- Each case has its number and its place.
 pub returns-in-Length : goal.returns-in-Length
 returns-in-Length c = rw (c.in-Length.is, c.tell.ensures)
 

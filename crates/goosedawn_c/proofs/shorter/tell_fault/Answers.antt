@@ -2,7 +2,6 @@
 use borrow.Author.Rules.{rules}
 use Rattle.goosedawn_c.proofs.shorter.tell_fault.Goals as goal
 
--- Each case has its numbers: 1; 11 and 12 of the first buffer; 54 and 55 of the second.
 pub returns-in-Symbols : goal.returns-in-Symbols
 returns-in-Symbols c = rw (c.in-Symbols.is, c.tell.ensures)
 

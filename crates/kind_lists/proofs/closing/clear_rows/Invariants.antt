@@ -1,11 +1,9 @@
 -- The loop's invariant: the places below `from` are kept, those up to i are 0, the others are as they were. The measure is
 -- what is left of the length.
-use Prim.Native.Nat.{ℕ, ◌+◌, ◌≤◌, ◌-◌}
-use mathlib.Core.Path.{◌≡◌, refl, ap, ◌∙◌}
-use mathlib.Core.List.{List}
-use native.Mathlib.Omega.{arith}
-use lib.ListN.{length, set}
-use Rattle.kind_lists.proofs.Zeros.{cleared, one_more, none_yet, all_cleared, length_cleared}
+use Prim.Native.Nat.{◌≤◌, ◌-◌}
+use mathlib.Core.Path.{◌≡◌}
+use lib.ListN.{length}
+use Rattle.kind_lists.proofs.Zeros.{cleared}
 use Rattle.kind_lists.proofs.closing.clear_rows.Given as goal
 
 abbrev pub invariant-loop-i : goal.invariant-loop-i

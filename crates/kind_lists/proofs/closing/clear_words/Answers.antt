@@ -1,11 +1,11 @@
 -- The loop's invariant: the places below `from` are kept, those up to i are 0, the others are as they were. The measure is
 -- what is left of the length.
-use Prim.Native.Nat.{ℕ, ◌+◌, ◌≤◌, ◌-◌}
-use mathlib.Core.Path.{◌≡◌, refl, ap, ◌∙◌}
+use Prim.Native.Nat.{ℕ, ◌+◌}
+use mathlib.Core.Path.{ap, ◌∙◌}
 use mathlib.Core.List.{List}
 use native.Mathlib.Omega.{arith}
-use lib.ListN.{length, set}
-use Rattle.kind_lists.proofs.Zeros.{cleared, one_more, none_yet, all_cleared, length_cleared}
+use lib.ListN.{set}
+use Rattle.kind_lists.proofs.Zeros.{one_more, all_cleared, length_cleared}
 use Rattle.kind_lists.proofs.closing.clear_words.Goals as goal
 
 pub loop-i-preserved : goal.loop-i-preserved

@@ -3,10 +3,8 @@ use mathlib.Core.Bool.{true, false}
 use native.Mathlib.Omega.{arith}
 use Rattle.kind_slots.proofs.Finding.{searchable, slot_few}
 use Rattle.kind_lists.proofs.Offers.{offer_old, offer_full, offer_stored}
-use borrow.Author.Rules.{rules}
 use Rattle.kind_lists.proofs.listing.offer.Goals as goal
 
--- The slots tell whether the kind is listed; by the arms, what each answer comes to is said by the cases of `offering`.
 pub find_slot-slot-requires : goal.find_slot-slot-requires
 find_slot-slot-requires c = searchable _ _ _ c.requires.3 (omega (arith, c.requires.0.used, c.requires.0.word_room))
 

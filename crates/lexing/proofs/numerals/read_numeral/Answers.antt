@@ -2,13 +2,9 @@
 -- The measure is what is left of the token. A turn of the loop is one step of the definition.
 use mathlib.Core.Path.{ap}
 use mathlib.Core.Bool.{not}
-use mathlib.Core.Path.{◌≡◌, sym, ◌∙◌}
-use Prim.Native.Nat.{◌-◌, ◌≤◌}
+use mathlib.Core.Path.{sym, ◌∙◌}
 use native.Mathlib.Omega.{arith}
-use lib.ListN.{length, drop}
-use borrow.Author.Tests.{not-false}
-use Rattle.lexing.specs.Numerals.{numeral_from, numeral_of}
-use Rattle.lexing.proofs.Digits.{digit_least, numeral_further, numeral_stopped, numeral_fits, numeral_large, numeral_none, numeral_some}
+use Rattle.lexing.proofs.Digits.{numeral_further, numeral_stopped, numeral_fits, numeral_large, numeral_none, numeral_some}
 use Rattle.lexing.proofs.numerals.read_numeral.Goals as goal
 
 pub returns-then-token-eq0 : goal.returns-then-token-eq0

@@ -1,11 +1,10 @@
 -- `count_newlines` meets its contract. The invariant: the line feeds counted and those left make all of them.
 -- The measure is what is left of the text. A turn of the loop is one step of the definition.
 use mathlib.Core.Path.{◌≡◌}
-use Prim.Native.Nat.{◌+◌, ◌-◌, ◌≤◌}
 use native.Mathlib.Omega.{arith}
-use lib.ListN.{length, drop, get_or}
+use lib.ListN.{get_or}
 use Rattle.lexing.proofs.Scans.{newlines_further, newlines_none, line_feed_small}
-use Rattle.lexing.specs.Text.{newlines, line_feed}
+use Rattle.lexing.specs.Text.{line_feed}
 use Rattle.lexing.proofs.tokens.count_newlines.Goals as goal
 
 pub loop-place-preserved : goal.loop-place-preserved

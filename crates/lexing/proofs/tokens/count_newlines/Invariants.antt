@@ -2,10 +2,8 @@
 -- The measure is what is left of the text. A turn of the loop is one step of the definition.
 use mathlib.Core.Path.{◌≡◌}
 use Prim.Native.Nat.{◌+◌, ◌-◌, ◌≤◌}
-use native.Mathlib.Omega.{arith}
-use lib.ListN.{length, drop, get_or}
-use Rattle.lexing.proofs.Scans.{newlines_further, newlines_none, line_feed_small}
-use Rattle.lexing.specs.Text.{newlines, line_feed}
+use lib.ListN.{length, drop}
+use Rattle.lexing.specs.Text.{newlines}
 use Rattle.lexing.proofs.tokens.count_newlines.Given as goal
 
 abbrev pub invariant-loop-place : goal.invariant-loop-place

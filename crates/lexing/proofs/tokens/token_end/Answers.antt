@@ -1,11 +1,8 @@
 -- `token_end` meets its contract. The invariant: the token ends where the stretch from the place reached on does.
 -- The measure is what is left of the text. A turn of the loop is one step of the definition.
-use mathlib.Core.Path.{◌≡◌, refl, sym, ◌∙◌}
-use Prim.Native.Nat.{◌-◌}
+use mathlib.Core.Path.{sym, ◌∙◌}
 use native.Mathlib.Omega.{arith}
-use lib.ListN.{length, drop}
 use Rattle.lexing.proofs.Scans.{end_here, end_further, end_none}
-use Rattle.lexing.specs.Text.{token_end}
 use Rattle.lexing.proofs.tokens.token_end.Goals as goal
 
 pub returns-then-is_ending : goal.returns-then-is_ending

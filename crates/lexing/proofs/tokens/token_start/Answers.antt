@@ -2,13 +2,9 @@
 -- The measure is what is left of the text. A turn of the loop is one step of the definition.
 use mathlib.Core.Path.{ap}
 use mathlib.Core.Bool.{not}
-use mathlib.Core.Path.{◌≡◌, refl, sym, ◌∙◌}
-use mathlib.Core.Bool.{false}
-use Prim.Native.Nat.{◌-◌}
+use mathlib.Core.Path.{sym, ◌∙◌}
 use native.Mathlib.Omega.{arith}
-use lib.ListN.{length, drop}
 use Rattle.lexing.proofs.Scans.{start_here, start_further, start_none}
-use Rattle.lexing.specs.Text.{token_start}
 use Rattle.lexing.proofs.tokens.token_start.Goals as goal
 
 pub returns-then-not-comment-apart : goal.returns-then-not-comment-apart

@@ -1,11 +1,9 @@
 -- `token_start` meets its contract. The invariant: the next token from the place reached on is the one asked for.
 -- The measure is what is left of the text. A turn of the loop is one step of the definition.
-use mathlib.Core.Path.{◌≡◌, refl, sym, ◌∙◌}
+use mathlib.Core.Path.{◌≡◌}
 use mathlib.Core.Bool.{false}
 use Prim.Native.Nat.{◌-◌}
-use native.Mathlib.Omega.{arith}
 use lib.ListN.{length, drop}
-use Rattle.lexing.proofs.Scans.{start_here, start_further, start_none}
 use Rattle.lexing.specs.Text.{token_start}
 use Rattle.lexing.proofs.tokens.token_start.Given as goal
 

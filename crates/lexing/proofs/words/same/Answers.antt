@@ -1,11 +1,10 @@
 -- `same` meets its contract. The invariant: the lengths are equal, and so are the bytes passed. The measure is what is
 -- left of the first stretch. Lists that are equal or not decide the test.
-use mathlib.Core.Path.{◌≡◌, refl, sym, ap, ◌∙◌}
-use Prim.Native.Nat.{◌-◌, ◌≤◌}
+use mathlib.Core.Path.{sym, ap, ◌∙◌}
 use native.Mathlib.Omega.{arith}
-use lib.ListN.{length, take, get_or}
+use lib.ListN.{length, get_or}
 use lib.Seq.{take_all}
-use Rattle.lexing.proofs.Sameness.{same_equal, same_unequal, take_more}
+use Rattle.lexing.proofs.Sameness.{same_equal, same_unequal}
 use Rattle.lexing.proofs.words.same.Goals as goal
 
 pub returns-then-a-b : goal.returns-then-a-b

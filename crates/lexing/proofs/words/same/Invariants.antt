@@ -1,11 +1,8 @@
 -- `same` meets its contract. The invariant: the lengths are equal, and so are the bytes passed. The measure is what is
 -- left of the first stretch. Lists that are equal or not decide the test.
-use mathlib.Core.Path.{◌≡◌, refl, sym, ap, ◌∙◌}
+use mathlib.Core.Path.{◌≡◌}
 use Prim.Native.Nat.{◌-◌, ◌≤◌}
-use native.Mathlib.Omega.{arith}
-use lib.ListN.{length, take, get_or}
-use lib.Seq.{take_all}
-use Rattle.lexing.proofs.Sameness.{same_equal, same_unequal, take_more}
+use lib.ListN.{length, take}
 use Rattle.lexing.proofs.words.same.Given as goal
 
 abbrev pub invariant-loop-i : goal.invariant-loop-i

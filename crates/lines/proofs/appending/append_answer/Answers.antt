@@ -5,10 +5,8 @@ use Rattle.printing.proofs.Runs.{appended_of}
 use Rattle.script.specs.Meaning.{answer_text}
 use Rattle.answers.specs.Numbers.{numbered}
 use Rattle.answers.specs.declared.numbered.Answer.{Answer}
-use borrow.Author.Rules.{rules}
 use Rattle.lines.proofs.appending.append_answer.Goals as goal
 
--- `append_answer` meets its contract, case by case.
 abbrev text : Answer → List ℕ
 text answer = answer_text (numbered answer)
 

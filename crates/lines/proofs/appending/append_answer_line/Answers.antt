@@ -2,10 +2,8 @@
 use Rattle.script.specs.Meaning.{answer_text}
 use Rattle.answers.specs.Numbers.{numbered}
 use Rattle.lines.proofs.Lined.{line_appended}
-use borrow.Author.Rules.{rules}
 use Rattle.lines.proofs.appending.append_answer_line.Goals as goal
 
--- A space, the text and a line feed, one behind another.
 pub returns : goal.returns
 returns c =
     let a = c.args in

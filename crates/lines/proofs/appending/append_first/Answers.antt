@@ -8,10 +8,8 @@ use lib.ListN.{take}
 use Rattle.foundation.specs.Lists.{take_clipped}
 use Rattle.printing.proofs.Runs.{appended_of, appended_both}
 use Rattle.script.specs.Meaning.{spaced}
-use borrow.Author.Rules.{rules}
 use Rattle.lines.proofs.appending.append_first.Goals as goal
 
--- `append_first` meets its contract: what is asked for behind the list's end is not there.
 pub slice_bounds-append_numbers-end : goal.slice_bounds-append_numbers-end
 slice_bounds-append_numbers-end c = sym (length-take-le c.clipped-end.result c.args.numbers.now (omega arith))
 

@@ -3,7 +3,6 @@ use mathlib.Core.List.{◌∷◌, ◌++◌}
 use Rattle.printing.specs.Decimals.{decimal}
 use Rattle.printing.proofs.Runs.{appended_both}
 use Rattle.script.specs.Phrases as phrases
-use borrow.Author.Rules.{rules}
 use Rattle.lines.proofs.appending.append_stop.Goals as goal
 
 pub returns : goal.returns

@@ -2,10 +2,8 @@
 use mathlib.Core.List.{◌∷◌, ◌++◌}
 use Rattle.printing.specs.Decimals.{decimal}
 use Rattle.printing.proofs.Runs.{appended_both}
-use borrow.Author.Rules.{rules}
 use Rattle.lines.proofs.appending.append_two.Goals as goal
 
--- `append_two` meets its contract: a text behind a text.
 pub returns : goal.returns
 returns c =
     let a = c.args in

@@ -7,10 +7,8 @@ use Rattle.printing.proofs.Runs.{appended_of, appended_both}
 use Rattle.answers.specs.Numbers.{writing_answer}
 use Rattle.script.specs.Meaning.{spaced, answer_text}
 use Rattle.lines.proofs.Writings.{text_refused, text_written}
-use borrow.Author.Rules.{rules}
 use Rattle.lines.proofs.appending.append_writing.Goals as goal
 
--- `append_writing` meets its contract, case by case: the numbers follow where some were written.
 pub returns-in-Rows : goal.returns-in-Rows
 returns-in-Rows c =
     let a = c.args in

@@ -1,10 +1,8 @@
 -- `append_expected` meets its contract, case by case.
 use Rattle.printing.proofs.Runs.{appended_of}
 use Rattle.script.specs.Meaning.{expected_text}
-use borrow.Author.Rules.{rules}
 use Rattle.lines.proofs.faults.append_expected.Goals as goal
 
--- `append_expected` meets its contract, case by case.
 pub returns-in-Statement : goal.returns-in-Statement
 returns-in-Statement c =
     let a = c.args in

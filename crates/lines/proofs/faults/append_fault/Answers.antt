@@ -8,10 +8,8 @@ use Rattle.printing.specs.Decimals.{decimal}
 use Rattle.printing.proofs.Runs.{appended_of, appended_both}
 use Rattle.script.specs.Phrases as phrases
 use Rattle.script.specs.Meaning.{expected_text, found_text, fault_line}
-use borrow.Author.Rules.{rules}
 use Rattle.lines.proofs.faults.append_fault.Goals as goal
 
--- `append_fault` meets its contract: text behind text, as the definition has it.
 pub returns : goal.returns
 unfolding fault_line
 returns c =

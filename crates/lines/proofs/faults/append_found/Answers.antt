@@ -5,10 +5,8 @@ use Rattle.printing.proofs.Runs.{appended_of, appended_both}
 use Rattle.script.specs.Phrases as phrases
 use Rattle.script.specs.Meaning.{found_text, most_bytes}
 use Rattle.script.specs.declared.spans.Expected.{Expected}
-use borrow.Author.Rules.{rules}
 use Rattle.lines.proofs.faults.append_found.Goals as goal
 
--- `append_found` meets its contract, case by case.
 pub returns-in-Statement : goal.returns-in-Statement
 returns-in-Statement c =
     let a = c.args in

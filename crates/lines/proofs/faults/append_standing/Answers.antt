@@ -9,7 +9,6 @@ use Rattle.script.specs.Phrases as phrases
 use Rattle.script.specs.Spans.{bytes_of}
 use Rattle.script.specs.Meaning.{token_text}
 use Rattle.lines.proofs.Parts.{part_clipped}
-use borrow.Author.Rules.{rules}
 use Rattle.lines.proofs.faults.append_standing.Goals as goal
 
 pub returns-then-text-span : goal.returns-then-text-span

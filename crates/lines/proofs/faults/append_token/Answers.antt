@@ -9,10 +9,8 @@ use borrow.Author.Tests.{lt-ltb, le-ltb}
 use Rattle.foundation.specs.Tests.{choose}
 use Rattle.printing.proofs.Runs.{appended_of, appended_both}
 use Rattle.script.specs.Phrases as phrases
-use borrow.Author.Rules.{rules}
 use Rattle.lines.proofs.faults.append_token.Goals as goal
 
--- `append_token` meets its contract: each text is the definition's under the test that led there.
 pub slice_bounds-append-end : goal.slice_bounds-append-end
 slice_bounds-append-end c = sym (length-take-le 32 c.args.token.now (omega arith))
 

@@ -8,10 +8,8 @@ use lib.ListN.{take, length-take}
 use Rattle.lexing.specs.Text.{newlines}
 use Rattle.foundation.specs.Lists.{take_clipped}
 use Rattle.lines.proofs.Parts.{newlines_most}
-use borrow.Author.Rules.{rules}
 use Rattle.lines.proofs.faults.line_of.Goals as goal
 
--- `line_of` meets its contract: what is asked for behind the text's end is not there, and there are no more line feeds than
 -- bytes.
 pub slice_bounds-count_newlines-end : goal.slice_bounds-count_newlines-end
 slice_bounds-count_newlines-end c = sym (length-take-le c.clipped-end.result c.args.text.now (omega arith))

@@ -2,7 +2,6 @@
 use mathlib.Core.List.{◌++◌}
 use Rattle.printing.proofs.Runs.{appended_both}
 use Rattle.lines.specs.Help.{rows_line, write_line, show_line, buffers_help}
-use borrow.Author.Rules.{rules}
 use Rattle.lines.proofs.help.append_buffers.Goals as goal
 
 pub returns : goal.returns

@@ -2,10 +2,8 @@
 use mathlib.Core.List.{◌++◌}
 use Rattle.printing.proofs.Runs.{appended_both}
 use Rattle.lines.specs.Help.{sizes_help, tables_help, questions_help, buffers_help, help}
-use borrow.Author.Rules.{rules}
 use Rattle.lines.proofs.help.append_help.Goals as goal
 
--- `append_help` meets its contract: part behind part.
 pub returns : goal.returns
 unfolding help
 returns c =

@@ -2,7 +2,6 @@
 use mathlib.Core.List.{◌++◌}
 use Rattle.printing.proofs.Runs.{appended_both}
 use Rattle.lines.specs.Help.{admit_line, judge_line, check_line, run_line, questions_help}
-use borrow.Author.Rules.{rules}
 use Rattle.lines.proofs.help.append_questions.Goals as goal
 
 pub returns : goal.returns

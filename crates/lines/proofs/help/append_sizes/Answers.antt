@@ -2,7 +2,6 @@
 use mathlib.Core.List.{◌++◌}
 use Rattle.printing.proofs.Runs.{appended_both}
 use Rattle.lines.specs.Help.{case_line, symbols_line, input_states_line, output_states_line, sizes_help}
-use borrow.Author.Rules.{rules}
 use Rattle.lines.proofs.help.append_sizes.Goals as goal
 
 pub returns : goal.returns

@@ -2,7 +2,6 @@
 use mathlib.Core.List.{◌++◌}
 use Rattle.printing.proofs.Runs.{appended_both}
 use Rattle.lines.specs.Help.{counts_line, input_rows_line, input_marks_line, output_table_line, output_marks_line, nodes_line, rules_line, tables_help}
-use borrow.Author.Rules.{rules}
 use Rattle.lines.proofs.help.append_tables.Goals as goal
 
 pub returns : goal.returns

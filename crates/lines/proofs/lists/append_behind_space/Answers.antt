@@ -2,10 +2,8 @@
 use Rattle.printing.specs.Decimals.{decimal}
 use mathlib.Core.List.{[], ◌∷◌}
 use Rattle.printing.proofs.Runs.{appended_both}
-use borrow.Author.Rules.{rules}
 use Rattle.lines.proofs.lists.append_behind_space.Goals as goal
 
--- `append_behind_space` meets its contract: a text behind a text.
 pub returns : goal.returns
 returns c =
     let both = appended_both c.args.out.now c.args.at (32 ∷ []) (decimal c.args.value) (c.append_byte-place.ensures.value, c.append_byte-place.ensures.out_after) (c.append_decimal.ensures.value, c.append_decimal.ensures.out_after) in

@@ -1,8 +1,7 @@
 -- `append_numbers` meets its contract. The invariant: the numbers passed are appended. The measure is how many are left.
 use Prim.Native.Nat.{◌-◌}
-use native.Mathlib.Omega.{arith}
 use lib.ListN.{length}
-use Rattle.lines.proofs.Listings.{Listed, listed_start, listed_length, listed_more, listed_end}
+use Rattle.lines.proofs.Listings.{Listed}
 use Rattle.lines.proofs.lists.append_numbers.Given as goal
 
 abbrev pub invariant-loop-i : goal.invariant-loop-i

@@ -2,7 +2,6 @@
 use Rattle.script.specs.Meaning.{spaced}
 use Rattle.printing.proofs.Runs.{appended_both}
 use Rattle.script.specs.Phrases as phrases
-use borrow.Author.Rules.{rules}
 use Rattle.lines.proofs.lists.append_words.Goals as goal
 
 pub returns : goal.returns

@@ -5,7 +5,6 @@ use Rattle.merging_pairs.specs.Types.{table_only}
 use Rattle.merging_pairs.proofs.Entries.{entry_empty, entry_next}
 use Rattle.merging_pairs.proofs.filling.entry_of.Goals as goal
 
--- Entry 0 is the pair of what both types give the empty forest; each other one is for a symbol over two pairs.
 pub returns-then-k-eq0 : goal.returns-then-k-eq0
 returns-then-k-eq0 c =
     let args = c.args in

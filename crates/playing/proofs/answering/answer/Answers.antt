@@ -9,11 +9,8 @@ use Rattle.playing.specs.declared.questions.Lent.{Lent}
 use Rattle.playing.specs.Questions.{lent_to}
 use Rattle.playing.proofs.QuestionLaws.{lent_most}
 use Rattle.playing.proofs.PlayLaws.{plays_set, plays_kept}
-use borrow.Author.Rules.{rules}
 use Rattle.playing.proofs.answering.answer.Goals as goal
 
--- What is lent fits the buffers; what comes of the question is the definition's step, whether the rows written become the
--- current table or not.
 pub ask_lent-given-requires : goal.ask_lent-given-requires
 ask_lent-given-requires c =
     let a = c.args in

@@ -1,10 +1,8 @@
 -- Case by case: the answer is that of the operation asked, and so are the buffers that it writes.
 use mathlib.Core.Path.{refl, ◌∙◌}
 use Rattle.playing.specs.Questions.{asked}
-use borrow.Author.Rules.{rules}
 use Rattle.playing.proofs.asking.ask.Goals as goal
 
--- Case by case: the answer is that of the operation asked, and so are the buffers that it writes.
 pub returns-in-Admit : goal.returns-in-Admit
 unfolding asked
 returns-in-Admit c = rw c.in-Admit.is (c.of_admission.ensures ∙ c.admit.ensures, refl, refl)

@@ -1,9 +1,7 @@
 -- The tables lie within the numbers, since the desk is in order; `ask` is told of each as its stretch.
 use native.Mathlib.Omega.{arith}
-use borrow.Author.Rules.{rules}
 use Rattle.playing.proofs.asking.ask_desk.Goals as goal
 
--- The tables lie within the numbers, since the desk is in order; `ask` is told of each as its stretch.
 pub offset_bounds-numbers-a : goal.offset_bounds-numbers-a
 offset_bounds-numbers-a c =
     let i = c.requires.0.tables.counts in omega (arith, i.ordered, i.up_to, c.requires.1, c.requires.2)

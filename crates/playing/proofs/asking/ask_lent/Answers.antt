@@ -4,10 +4,8 @@ use lib.Seq.{length-take-le}
 use Rattle.answers.specs.Numbers.{numbered}
 use Rattle.playing.specs.Desks.{contract_at}
 use Rattle.playing.proofs.QuestionLaws.{lends}
-use borrow.Author.Rules.{rules}
 use Rattle.playing.proofs.asking.ask_lent.Goals as goal
 
--- The lent beginnings are handed on.
 pub slice_bounds-ask_afresh-end-2 : goal.slice_bounds-ask_afresh-end-2
 slice_bounds-ask_afresh-end-2 c = sym (length-take-le _ _ c.requires.3)
 

@@ -1,9 +1,7 @@
 -- The loop's invariant: the numbers up to i are copied. The measure is how many are left.
-use Prim.Native.Nat.{◌-◌}
 use native.Mathlib.Omega.{arith}
-use lib.ListN.{length}
 use mathlib.Core.Path.{refl}
-use Rattle.playing.proofs.Copies.{Copied, copied_start, copied_more, copied_end}
+use Rattle.playing.proofs.Copies.{copied_start, copied_more, copied_end}
 use Rattle.playing.proofs.buffers.copy.Goals as goal
 
 pub loop-i-init : goal.loop-i-init

@@ -1,9 +1,8 @@
 -- The loop's invariant: as many sevens as there are places are copied up to i. The measure is how many are left.
 use Prim.Native.Nat.{◌-◌}
-use native.Mathlib.Omega.{arith}
 use lib.ListN.{length}
 use Rattle.script.specs.Meaning.{untouched}
-use Rattle.playing.proofs.Copies.{Copied, copied_start, filled_more, filled_end}
+use Rattle.playing.proofs.Copies.{Copied}
 use Rattle.playing.proofs.buffers.fill_numbers.Given as goal
 
 abbrev pub invariant-loop-i : goal.invariant-loop-i

@@ -1,8 +1,6 @@
 -- Case by case: what the size is known to be.
-use borrow.Author.Rules.{rules}
 use Rattle.playing.proofs.desks.with_size.Goals as goal
 
--- Case by case: what the size is known to be.
 pub returns-in-Symbols : goal.returns-in-Symbols
 returns-in-Symbols c = rw c.in-Symbols.is
 

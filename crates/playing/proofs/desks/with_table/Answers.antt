@@ -1,8 +1,6 @@
 -- Case by case: what the table is known to be.
-use borrow.Author.Rules.{rules}
 use Rattle.playing.proofs.desks.with_table.Goals as goal
 
--- Case by case: what the table is known to be.
 pub returns-in-Counts : goal.returns-in-Counts
 returns-in-Counts c = rw c.in-Counts.is
 

@@ -2,10 +2,8 @@
 use native.Mathlib.Omega.{arith}
 use Rattle.script.proofs.Stretches.{span_least, span_most}
 use Rattle.playing.proofs.HelpLaws.{help_none, help_by}
-use borrow.Author.Rules.{rules}
 use Rattle.playing.proofs.help.asks_help.Goals as goal
 
--- The first token lies within the text; help is asked for by it and by what comes behind it.
 pub returns-then-text-start : goal.returns-then-text-start
 returns-then-text-start c = help_none c.args.text.now c.args.cut c.next_span-word.result c.next_span-word.ensures c.if-text-start.true
 

@@ -1,10 +1,8 @@
 -- Case by case: what the question is known to be, and the test of its number.
 use native.Mathlib.Omega.{arith}
 use borrow.Author.Tests.{lt-ltb, le-ltb}
-use borrow.Author.Rules.{rules}
 use Rattle.playing.proofs.questions.left_after.Goals as goal
 
--- Case by case: what the question is known to be, and the test of its number.
 pub overflow_mul-result : goal.overflow_mul-result
 overflow_mul-result c = let s = rw c.in-Check.is at c.requires in omega (arith, s)
 

@@ -1,10 +1,8 @@
 -- Case by case: what the question is known to be, and the test of its number.
 use native.Mathlib.Omega.{arith}
 use borrow.Author.Tests.{lt-ltb, le-ltb}
-use borrow.Author.Rules.{rules}
 use Rattle.playing.proofs.questions.lent_to.Goals as goal
 
--- Case by case: what the question is known to be, and the test of its number.
 pub returns-then-limit : goal.returns-then-limit
 returns-then-limit c = rw (c.in-Check.is, c.if-limit.true)
 

@@ -8,10 +8,8 @@ use lib.Seq.{length-take-le}
 use Rattle.script.specs.Phrases as phrases
 use Rattle.script.specs.Meaning.{line, spaced, untouched}
 use Rattle.playing.proofs.PlayLaws.{one_line, one_fits, two_lines, two_fit, list_line, sevens_length}
-use borrow.Author.Rules.{rules}
 use Rattle.playing.proofs.showing.show.Goals as goal
 
--- Case by case: what was left fits the buffers, and its lines fit the output.
 pub slice_bounds-rows_line-end : goal.slice_bounds-rows_line-end
 slice_bounds-rows_line-end c = let f = rw c.in-Rows.is at c.requires.0 in let b = c.requires.1.rows_long in sym (length-take-le _ _ (omega (arith, f, b)))
 

@@ -10,10 +10,8 @@ use Rattle.script.specs.Meaning.{line, written_text, untouched}
 use Rattle.playing.specs.Desks.{stretch}
 use Rattle.playing.proofs.LineLaws.{line_length, written_short}
 use Rattle.playing.proofs.PlayLaws.{written_whole, one_line, one_fits}
-use borrow.Author.Rules.{rules}
 use Rattle.playing.proofs.showing.write.Goals as goal
 
--- The buffer is filled; the line is made of what writing out promises, and fits.
 pub returns : goal.returns
 returns c =
     let n = length c.args.tree.now in

@@ -4,10 +4,8 @@ use Prim.Native.Nat.{◌+◌}
 use Rattle.playing.specs.declared.statements.Done.{Done}
 use Rattle.playing.specs.Desks.{label_of, state_of, stretch, span}
 use Rattle.playing.proofs.StatementLaws.{plays_table, plays_rows, plays_as, step_judge, step_run}
-use borrow.Author.Rules.{rules}
 use Rattle.playing.proofs.statements.do_list.Goals as goal
 
--- Case by case: what the list is known to be for, and the step that it is.
 pub returns-in-Table : goal.returns-in-Table
 returns-in-Table c =
     let a = c.args in

@@ -9,10 +9,8 @@ use Rattle.playing.specs.Desks.{label_of, state_of, stretch, span}
 use Rattle.playing.specs.Plays.{count_of}
 use Rattle.playing.proofs.StateLaws.{inside_more}
 use Rattle.playing.proofs.StatementLaws.{plays_end, plays_fault, plays_case, plays_size, plays_as, plays_write, plays_show, step_admit, step_check}
-use borrow.Author.Rules.{rules}
 use Rattle.playing.proofs.statements.do_statement.Goals as goal
 
--- Case by case: what the statement is known to be, and the step that it is.
 pub do_list-requires : goal.do_list-requires
 do_list-requires c =
     (c.requires.0, rw c.in-List.is at c.requires.1, c.requires.2, c.requires.3)

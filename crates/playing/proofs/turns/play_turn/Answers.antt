@@ -1,10 +1,8 @@
 -- What is read has room, and what is done with it is the definition's step; or the script stops.
 use mathlib.Core.Path.{sym, ◌∙◌}
 use Rattle.playing.proofs.TurnLaws.{count_fits, turn_on, turn_off}
-use borrow.Author.Rules.{rules}
 use Rattle.playing.proofs.turns.play_turn.Goals as goal
 
--- What is read has room, and what is done with it is the definition's step; or the script stops.
 pub do_statement-done-requires : goal.do_statement-done-requires
 do_statement-done-requires c =
     let a = c.args in

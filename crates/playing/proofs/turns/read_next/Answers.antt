@@ -1,9 +1,7 @@
 -- The free numbers are lent whole.
 use Rattle.playing.proofs.TurnLaws.{read_back}
-use borrow.Author.Rules.{rules}
 use Rattle.playing.proofs.turns.read_next.Goals as goal
 
--- The free numbers are lent whole.
 pub returns : goal.returns
 returns c =
     let a = c.args in

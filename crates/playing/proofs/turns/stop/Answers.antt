@@ -6,10 +6,8 @@ use lib.ListN.{length}
 use Rattle.script.specs.Meaning.{fault_line}
 use Rattle.playing.proofs.LineLaws.{appended_first, appended_within}
 use Rattle.playing.proofs.TurnLaws.{fault_short}
-use borrow.Author.Rules.{rules}
 use Rattle.playing.proofs.turns.stop.Goals as goal
 
--- Case by case: a fault's line fits, and no other statement prints anything where a script stops.
 pub returns-in-End : goal.returns-in-End
 returns-in-End c = rw c.in-End.is record { by_index = (λ label. refl); printed_fits = tt }
 

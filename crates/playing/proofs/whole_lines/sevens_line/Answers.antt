@@ -3,10 +3,8 @@ use mathlib.Core.List.{◌++◌}
 use Rattle.printing.proofs.Runs.{appended_both}
 use Rattle.script.specs.Meaning.{spaced, untouched}
 use Rattle.lines.proofs.Lined.{line_appended}
-use borrow.Author.Rules.{rules}
 use Rattle.playing.proofs.whole_lines.sevens_line.Goals as goal
 
--- A space, the word, the sevens and a line feed, one behind another.
 pub returns : goal.returns
 returns c =
     let a = c.args in

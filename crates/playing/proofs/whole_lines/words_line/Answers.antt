@@ -3,10 +3,8 @@ use mathlib.Core.List.{◌++◌}
 use Rattle.script.specs.Phrases as phrases
 use Rattle.script.specs.Meaning.{spaced}
 use Rattle.lines.proofs.Lined.{line_appended}
-use borrow.Author.Rules.{rules}
 use Rattle.playing.proofs.whole_lines.words_line.Goals as goal
 
--- A space, the text and a line feed, one behind another.
 pub returns : goal.returns
 returns c =
     let a = c.args in

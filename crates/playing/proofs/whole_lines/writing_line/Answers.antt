@@ -2,10 +2,8 @@
 use Rattle.answers.specs.Numbers.{writing_answer}
 use Rattle.script.specs.Meaning.{written_text}
 use Rattle.lines.proofs.Lined.{line_appended}
-use borrow.Author.Rules.{rules}
 use Rattle.playing.proofs.whole_lines.writing_line.Goals as goal
 
--- A space, the text and a line feed, one behind another.
 pub returns : goal.returns
 returns c =
     let a = c.args in

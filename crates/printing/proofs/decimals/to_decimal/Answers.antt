@@ -2,7 +2,7 @@
 -- and what is left has no more digits than there are places. The measure is the place.
 use native.Mathlib.Omega.{arith}
 use lib.ListN.{length-set}
-use Rattle.printing.proofs.Columns.{Column, column_start, column_room, column_more, column_end}
+use Rattle.printing.proofs.Columns.{column_start, column_more, column_end}
 use Rattle.printing.proofs.decimals.to_decimal.Goals as goal
 
 pub loop-rest-init : goal.loop-rest-init

@@ -1,8 +1,6 @@
 -- `to_decimal` meets its contract. The invariant: the number is the digits of what is left in front of those written,
 -- and what is left has no more digits than there are places. The measure is the place.
-use native.Mathlib.Omega.{arith}
-use lib.ListN.{length-set}
-use Rattle.printing.proofs.Columns.{Column, column_start, column_room, column_more, column_end}
+use Rattle.printing.proofs.Columns.{Column}
 use Rattle.printing.proofs.decimals.to_decimal.Given as goal
 
 abbrev pub invariant-loop-rest : goal.invariant-loop-rest

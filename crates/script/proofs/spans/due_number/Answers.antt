@@ -1,10 +1,8 @@
 -- `due_number` meets its contract: each answer is the definition's for what comes next.
 use mathlib.Core.Path.{sym, ◌∙◌}
 use Rattle.script.proofs.Stretches.{due_by}
-use borrow.Author.Rules.{rules}
 use Rattle.script.proofs.spans.due_number.Goals as goal
 
--- `due_number` meets its contract: each answer is the definition's for what comes next.
 pub returns-in-Number : goal.returns-in-Number
 returns-in-Number c = due_by _ _ _ _ (sym c.next_number-ahead.ensures ∙ c.in-Number.is)
 

@@ -3,11 +3,8 @@
 use mathlib.Core.Path.{sym, ◌∙◌}
 use native.Mathlib.Omega.{arith}
 use Rattle.script.proofs.Stretches.{span_least, span_most, ahead_cut, ahead_end, ahead_token}
-use borrow.Author.Rules.{rules}
 use Rattle.script.proofs.spans.next_number.Goals as goal
 
--- `next_number` meets its contract: each answer is the definition's under the tests that led there, and the part of the
--- text that is read as a number lies within it.
 pub returns-then-cut-text : goal.returns-then-cut-text
 returns-then-cut-text c = ahead_cut c.args.text.now c.args.at c.next_span-span.result c.next_span-span.ensures c.args.cut c.if-cut-text.true
 

@@ -1,11 +1,8 @@
 -- `read_numbers` meets its contract. The invariant: the numbers read stand at the beginning of the buffer, and the list
 -- asked for is those followed by the list from the place reached. The measure is the room left.
-use mathlib.Core.Path.{sym, ◌∙◌}
 use Prim.Native.Nat.{◌-◌}
-use native.Mathlib.Omega.{arith}
-use lib.ListN.{length, length-set}
-use borrow.Author.Rules.{rules}
-use Rattle.script.proofs.Listings.{Reached, reached_start, reached_more, stopped_full, stopped_other, stopped_fault}
+use lib.ListN.{length}
+use Rattle.script.proofs.Listings.{Reached}
 use Rattle.script.proofs.spans.read_numbers.Given as goal
 
 abbrev pub invariant-loop-value : goal.invariant-loop-value

@@ -2,10 +2,8 @@
 use mathlib.Core.Path.{refl}
 use Rattle.script.specs.Statements.{word_at}
 use Rattle.script.proofs.Readings.{word_answer}
-use borrow.Author.Rules.{rules}
 use Rattle.script.proofs.statements.after_word.Goals as goal
 
--- `after_word` meets its contract: each arm gives the definition's answer for its word, and its callee's buffer.
 pub returns-in-Case : goal.returns-in-Case
 unfolding word_at
 returns-in-Case c =

@@ -1,10 +1,8 @@
 -- `read_list` meets its contract: the answer is the definition's for how the list ends, and the buffer holds the list.
 use mathlib.Core.Path.{sym, ap, ◌∙◌}
 use Rattle.script.specs.Statements.{list_at, list_by}
-use borrow.Author.Rules.{rules}
 use Rattle.script.proofs.statements.read_list.Goals as goal
 
--- `read_list` meets its contract: the answer is the definition's for how the list ends, and the buffer holds the list.
 pub returns-in-Ended : goal.returns-in-Ended
 unfolding list_at
 returns-in-Ended c =

@@ -1,10 +1,8 @@
 -- `read_name` meets its contract: each answer is the definition's under the tests that led there.
 use native.Mathlib.Omega.{arith}
 use Rattle.script.proofs.Readings.{name_cut, name_none, name_some}
-use borrow.Author.Rules.{rules}
 use Rattle.script.proofs.statements.read_name.Goals as goal
 
--- `read_name` meets its contract: each answer is the definition's under the tests that led there.
 pub returns-then-cut-text : goal.returns-then-cut-text
 returns-then-cut-text c = name_cut c.args.text.now c.args.cut c.args.at c.next_span-span.result c.next_span-span.ensures c.if-cut-text.true
 

@@ -5,11 +5,8 @@ use native.Mathlib.Omega.{arith}
 use lib.ListN.{length}
 use Rattle.script.proofs.Stretches.{span_least, span_most}
 use Rattle.script.proofs.Readings.{read_answer, statement_cut, statement_end, statement_word}
-use borrow.Author.Rules.{rules}
 use Rattle.script.proofs.statements.read_statement.Goals as goal
 
--- `read_statement` meets its contract: each answer is the definition's under the tests that led there; the part of the
--- text that is read as a word lies within it.
 pub returns-then-cut-text : goal.returns-then-cut-text
 returns-then-cut-text c =
     let both = read_answer c.args.buffer.now (statement_cut c.args.text.now c.args.cut c.args.at c.next_span-span.result c.next_span-span.ensures (length c.args.buffer.now) c.if-cut-text.true) refl refl in

@@ -1,10 +1,8 @@
 -- `read_write` meets its contract: each answer is the definition's for the two numbers that must stand there.
 use mathlib.Core.Path.{sym, ◌∙◌}
 use Rattle.script.specs.Statements.{write_at}
-use borrow.Author.Rules.{rules}
 use Rattle.script.proofs.statements.read_write.Goals as goal
 
--- `read_write` meets its contract: each answer is the definition's for the two numbers that must stand there.
 pub returns-in-Number-second : goal.returns-in-Number-second
 unfolding write_at
 returns-in-Number-second c = rw (sym c.due_number-first.ensures ∙ c.in-Number.is, sym c.due_number-second.ensures ∙ c.in-Number-second.is)

@@ -5,7 +5,6 @@ use Rattle.worked.specs.Lines.{answer_line, line}
 use borrow.Author.Rules.{rules}
 use Rattle.worked.proofs.contracts.run_c2.Goals as goal
 
--- `run_c2` meets its contract: the line of the answer that the definitions give.
 pub returns : goal.returns
 unfolding line
 returns c =

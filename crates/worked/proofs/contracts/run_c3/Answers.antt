@@ -10,7 +10,6 @@ use Rattle.worked.specs.Lines.{answer_line, line}
 use borrow.Author.Rules.{rules}
 use Rattle.worked.proofs.contracts.run_c3.Goals as goal
 
--- `run_c3` meets its contract: the line of the answer that the definitions give.
 pub returns : goal.returns
 unfolding line
 returns c =

@@ -10,7 +10,6 @@ use Rattle.worked.proofs.Sevens.{sevens, sevens_length}
 use borrow.Author.Rules.{rules}
 use Rattle.worked.proofs.questions.run_typed.Goals as goal
 
--- `run_typed` meets its contract: what is lent holds sevens.
 pub returns : goal.returns
 unfolding ask
 returns c =

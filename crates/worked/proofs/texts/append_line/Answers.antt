@@ -5,7 +5,6 @@ use Rattle.answers.specs.Numbers.{numbered}
 use borrow.Author.Rules.{rules}
 use Rattle.worked.proofs.texts.append_line.Goals as goal
 
--- `append_line` meets its contract: text behind text.
 pub returns : goal.returns
 returns c =
     let a = c.args in
