@@ -1,7 +1,7 @@
 /* Goosedawn for C: contracts admitted and checked, documents judged, transformed and compared, trees written out,
  * output types merged, lists of kinds examined.
  *
- * Link with target/staticlib/libgoosedawn_c.a, which `rt staticlib goosedawn_c` proves and writes (x86-64).
+ * Link with crates/goosedawn_c/out/libgoosedawn_c.a, which `rt lib` in crates/goosedawn_c proves and writes (x86-64).
  *
  * Any numbers and any lengths may be handed in: what is wrong is refused. Each table is a pointer, then how many 16-bit
  * numbers it has; the pointer is of live memory of that length and never null, also where the length is 0. What is

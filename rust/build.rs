@@ -3,7 +3,7 @@
 
 use std::path::Path;
 
-const MADE: &str = "run `rt staticlib goosedawn_c` at the top of the repository first";
+const MADE: &str = "run `rt lib` in crates/goosedawn_c first";
 const MADE_FOR_COMPARISON: &str = "`tests/compare` makes it";
 
 fn link(folder: &str, name: &str, made: &str) {
@@ -23,6 +23,6 @@ fn main() {
         link("target/compare", "goosedawn_c", MADE_FOR_COMPARISON);
         link("target/compare", "goosedawn_c_old", MADE_FOR_COMPARISON);
     } else {
-        link("target/staticlib", "goosedawn_c", MADE);
+        link("crates/goosedawn_c/out", "goosedawn_c", MADE);
     }
 }
