@@ -1,93 +1,70 @@
 -- Admission is its stages, one after another; and what the stages that are passed establish for the next one.
 use mathlib.Core.Path.{◌≡◌, ◌∙◌}
-use mathlib.Core.List.{List, []}
 use Prim.Native.Nat.{ℕ, ◌+◌, ◌*◌, ◌-◌, ◌<◌, ◌≤◌}
 use native.Mathlib.Nat.{mul-le-mul}
 use native.Mathlib.Omega.{arith}
 use borrow.Author.Tests.{lt-ltb, le-ltb}
-use lib.Dec.{ltb}
 use lib.ListN.{length}
-use Rattle.model.specs.Tables.{Contract, contract, node_count}
+use Rattle.model.specs.Tables.{Contract}
 use Rattle.model.specs.Facts.{fact_total}
-use Rattle.model.specs.Answers.{Verdict, fine, refused, ◌then◌, refuse_if}
-use Rattle.model.specs.Admission.{lowest_node_fault, most_facts, admitted_unless, sizes, lengths, input_rows, entries, counts, nodes, rules, facts, admission, admit}
+use Rattle.model.specs.Answers.{fine, refused, ◌then◌}
+use Rattle.model.specs.Admission.{admitted_unless, sizes, lengths, input_rows, entries, counts, nodes, facts, admission, admit}
 use Rattle.model.proofs.Laws.Answers.{refuse_if_refused, refuse_if_passed, then_fine_left, then_fine_right, then_assoc}
-use Rattle.model.proofs.Laws.Admitted.{sizes_good, input_marks_long, output_table_long, output_marks_long, nodes_whole, nodes_good, counts_good}
+use Rattle.model.proofs.Laws.Admitted.{GoodSizes, sizes_good, input_marks_long, output_table_long, output_marks_long, nodes_whole, nodes_good, counts_good}
 use Rattle.model.proofs.Laws.Established.{GoodNodes}
 use Rattle.numbering.specs.Counts.{SmallCounts}
 use Rattle.admission.specs.Stages.{shape, types, expressions}
 
--- nodes none of which is bad
-pub good_nodes : (S : ℕ) (cs ns : List ℕ) → node_count ns ≤ 256
-    → lowest_node_fault S cs ns ≡ fine
-    → GoodNodes cs ns
-unfolding nodes
-good_nodes S cs ns few e = record { symbols = S; few = few; node = nodes_good (contract S 0 0 cs [] [] [] [] ns []) e }
-
--- the total, where it is over 256 and where it is not
-pub facts_over : (O : ℕ) (cs : List ℕ) (total : ℕ) → total ≡ fact_total O cs → 256 < total
-    → refuse_if (ltb most_facts (fact_total O cs)) 8 (fact_total O cs) ≡ refused 8 total
-facts_over O cs total e h = refuse_if_refused _ 8 (fact_total O cs) (lt-ltb 256 (fact_total O cs) (omega arith)) ∙ rw e
-
-pub facts_within : (O : ℕ) (cs : List ℕ) (total : ℕ) → total ≡ fact_total O cs → total ≤ 256
-    → refuse_if (ltb most_facts (fact_total O cs)) 8 (fact_total O cs) ≡ fine
-facts_within O cs total e h = refuse_if_passed _ 8 (fact_total O cs) (le-ltb 256 (fact_total O cs) (omega arith))
-
-module _ (S I O : ℕ) (cs rows input_marks table output_marks ns rs : List ℕ) where
-  abbrev C : Contract
-  C = contract S I O cs rows input_marks table output_marks ns rs
-
-  abbrev shape_verdict : Verdict
-  shape_verdict = shape S I O (length cs) (length rows) (length input_marks) (length table) (length output_marks) (length ns) (length rs)
-
-  abbrev types_verdict : Verdict
-  types_verdict = types S I O cs rows input_marks table output_marks
-
+module _ (C : Contract) where
   -- admission is its stages, one after another
-  pub stages : admit C ≡ admitted_unless (shape_verdict then types_verdict then expressions S O cs ns rs)
-  unfolding admit admission shape types expressions sizes lengths input_rows entries counts nodes rules facts
+  pub stages : admit C ≡ admitted_unless (shape C then types C then expressions C)
+  unfolding admit admission
   stages =
       rw (
-        then_assoc (sizes C) (lengths C) (types_verdict then expressions S O cs ns rs),
-        then_assoc (input_rows C) (entries C then counts C) (expressions S O cs ns rs),
-        then_assoc (entries C) (counts C) (expressions S O cs ns rs),
+        then_assoc (sizes C) (lengths C) (types C then expressions C),
+        then_assoc (input_rows C) (entries C then counts C) (expressions C),
+        then_assoc (entries C) (counts C) (expressions C),
       )
 
-  shape_sizes : shape_verdict ≡ fine → sizes C ≡ fine
-  unfolding shape sizes
-  shape_sizes e = then_fine_left _ _ e
+  -- the total, where it is over 256 and where it is not
+  pub facts_over : (total : ℕ) → total ≡ fact_total C.output.states C.transformation.counts → 256 < total → facts C ≡ refused 8 total
+  unfolding facts
+  facts_over total e h = refuse_if_refused _ 8 _ (lt-ltb 256 _ (omega arith)) ∙ rw e
 
-  shape_lengths : shape_verdict ≡ fine → lengths C ≡ fine
-  unfolding shape lengths
-  shape_lengths e = then_fine_right _ _ e
+  pub facts_within : (total : ℕ) → total ≡ fact_total C.output.states C.transformation.counts → total ≤ 256 → facts C ≡ fine
+  unfolding facts
+  facts_within total e h = refuse_if_passed _ 8 _ (le-ltb 256 _ (omega arith))
 
-  types_counts : types_verdict ≡ fine → counts C ≡ fine
-  unfolding types counts
-  types_counts e = then_fine_right _ _ (then_fine_right _ _ e)
+  module _ (shaped : shape C ≡ fine) where
+    good : GoodSizes C.transformation.symbols C.input.states C.output.states (length C.transformation.counts)
+    good = sizes_good C (then_fine_left _ _ shaped)
 
-  pub few_entries : shape_verdict ≡ fine → length input_marks + length table + length output_marks ≤ 512
-  few_entries e =
-      let s = sizes_good C (shape_sizes e) in
-      let o : O ≤ 4 = s.output_states.≤most in
-      let i : I ≤ 32 = s.input_states.≤most in
-      let few : S - 1 ≤ 15 = (let b : S ≤ 16 = s.symbols.≤most in omega arith) in
-      let square : (S - 1) * O * O ≤ 15 * 4 * 4 = mul-le-mul (mul-le-mul few o) o in
-      let a : length input_marks ≡ I = input_marks_long C (shape_lengths e) in
-      let b : length table ≡ 1 + (S - 1) * O * O = output_table_long C (shape_lengths e) in
-      let c : length output_marks ≡ O = output_marks_long C (shape_lengths e) in
-      omega arith
+    long : lengths C ≡ fine
+    long = then_fine_right _ _ shaped
 
-  pub few_procedures : shape_verdict ≡ fine → length cs ≤ 16
-  few_procedures e = (sizes_good C (shape_sizes e)).procedures.≤most
+    pub few_entries : length C.input.marks + length C.output.table + length C.output.marks ≤ 512
+    few_entries =
+        let o : C.output.states ≤ 4 = good.output_states.≤most in
+        let i : C.input.states ≤ 32 = good.input_states.≤most in
+        let few : C.transformation.symbols - 1 ≤ 15 = (let b : C.transformation.symbols ≤ 16 = good.symbols.≤most in omega arith) in
+        let square : (C.transformation.symbols - 1) * C.output.states * C.output.states ≤ 15 * 4 * 4 = mul-le-mul (mul-le-mul few o) o in
+        let a : length C.input.marks ≡ C.input.states = input_marks_long C long in
+        let b : length C.output.table ≡ 1 + (C.transformation.symbols - 1) * C.output.states * C.output.states = output_table_long C long in
+        let c : length C.output.marks ≡ C.output.states = output_marks_long C long in
+        omega arith
 
-  pub small-counts : shape_verdict ≡ fine → types_verdict ≡ fine → SmallCounts O cs
-  small-counts e t =
-      record {
-        states≥ = (sizes_good C (shape_sizes e)).output_states.least≤;
-        states≤ = (sizes_good C (shape_sizes e)).output_states.≤most;
-        procedures≤ = few_procedures e;
-        count≤ = counts_good C (types_counts t);
-      }
+    pub few_procedures : length C.transformation.counts ≤ 16
+    few_procedures = good.procedures.≤most
 
-  pub few-nodes : shape_verdict ≡ fine → node_count ns ≤ 256
-  few-nodes e = (nodes_whole C (shape_lengths e)).few
+    pub small_counts : types C ≡ fine → SmallCounts C.output.states C.transformation.counts
+    small_counts t =
+        record {
+          states≥ = good.output_states.least≤;
+          states≤ = good.output_states.≤most;
+          procedures≤ = few_procedures;
+          count≤ = counts_good C (then_fine_right _ _ (then_fine_right _ _ t));
+        }
+
+    -- nodes none of which is bad
+    pub good_nodes : nodes C ≡ fine → GoodNodes C.transformation.counts C.transformation.nodes
+    good_nodes e = record { symbols = C.transformation.symbols; few = (nodes_whole C long).few; node = nodes_good C e }

@@ -4,142 +4,91 @@
 // the number of facts.
 #![tactic(auto)]
 
-ghost use Rattle.std.specs.Prelude.{◌≡◌, ◌+◌, ◌≤◌, length};
-ghost use Rattle.model.specs.Tables.{contract, node_count};
+ghost use Rattle.std.specs.Prelude.{◌≡◌};
+ghost use Rattle.model.specs.Answers.{fine};
 ghost use Rattle.model.specs.Admission as model;
 ghost use Rattle.model.specs.Admission.{admitted_unless};
+ghost use Rattle.tables.specs.Handed.{handed};
 ghost use Rattle.answers.specs.Numbers.{admission_answer};
-ghost use Rattle.numbering.specs.Counts.{SmallCounts};
 ghost use Rattle.admission.specs.Stages.{shape, types, expressions};
 
 use admission_expressions::nodes::admit_nodes;
 use admission_expressions::rules::first_bad_rule;
 use admission_tables::entries::{first_bad_count, first_bad_entry, first_bad_input_row};
-use admission_tables::sizes::{Lengths, first_bad_length, first_bad_size};
-use answers::{AdmissionAnswer, ContractFault};
+use admission_tables::sizes::{first_bad_length, first_bad_size};
+use answers::ContractFault;
 use numbering::fact_total;
-use tables::Procedure;
+use tables::ContractTables;
+
+// The most facts, as many as a kind has room for.
+const MOST_FACTS: usize = 256;
 
 // Refusals 1 and 2: the sizes, and the lengths of the tables.
-fn admit_shape(
-    symbols: usize,
-    input_states: usize,
-    output_states: usize,
-    procedures: usize,
-    lengths: Lengths,
-) -> AdmissionAnswer
-    ensures { admission_answer result ≡ admitted_unless (shape symbols input_states output_states procedures lengths.input_rows lengths.input_marks
-        lengths.output_table lengths.output_marks lengths.nodes lengths.rules) }
+fn admit_shape(contract: &ContractTables) -> Result<(), ContractFault>
+    ensures { admission_answer result ≡ admitted_unless (shape (handed contract.now)) }
 {
-    let size = first_bad_size(symbols, input_states, output_states, procedures);
-    if size < 4 {
-        return AdmissionAnswer::Refused(ContractFault::Size(size));
+    if let Some(place) = first_bad_size(contract) {
+        return Err(ContractFault::Size(place));
     }
-    let table = first_bad_length(symbols, input_states, output_states, lengths);
-    if table < 6 {
-        return AdmissionAnswer::Refused(ContractFault::Length(table));
+    if let Some(table) = first_bad_length(contract) {
+        return Err(ContractFault::Length(table));
     }
-    AdmissionAnswer::Admitted
+    Ok(())
 }
 
 // Refusals 3 to 5: input rows, marks and output entries, parameter counts.
-fn admit_types(
-    symbols: usize,
-    input_states: usize,
-    output_states: usize,
-    counts: &[u16],
-    input_rows: &[u16],
-    input_marks: &[u16],
-    output_table: &[u16],
-    output_marks: &[u16],
-) -> AdmissionAnswer
-    requires output_marks_len_bound { length input_marks.now + length output_table.now + length output_marks.now ≤ 512 }
-    requires counts_len_bound { length counts.now ≤ 16 }
-    ensures { admission_answer result ≡ admitted_unless (types symbols input_states output_states counts.now input_rows.now
-        input_marks.now output_table.now output_marks.now) }
+fn admit_types(contract: &ContractTables) -> Result<(), ContractFault>
+    requires { shape (handed contract.now) ≡ fine }
+    ensures { admission_answer result ≡ admitted_unless (types (handed contract.now)) }
 {
-    let row = first_bad_input_row(symbols, input_states, input_rows);
-    if row < input_rows.len() / 4 {
-        return AdmissionAnswer::Refused(ContractFault::InputRow(row));
+    if let Some(row) = first_bad_input_row(
+        contract.symbols,
+        contract.input_states,
+        contract.input_rows,
+    ) {
+        return Err(ContractFault::InputRow(row));
     }
-    let entry = first_bad_entry(output_states, input_marks, output_table, output_marks);
-    if entry < input_marks.len() + output_table.len() + output_marks.len() {
-        return AdmissionAnswer::Refused(ContractFault::Entry(entry));
+    if let Some(entry) = first_bad_entry(
+        contract.output_states,
+        contract.input_marks,
+        contract.output_table,
+        contract.output_marks,
+    ) {
+        return Err(ContractFault::Entry(entry));
     }
-    let place = first_bad_count(counts);
-    if place < counts.len() {
-        return AdmissionAnswer::Refused(ContractFault::Count(Procedure(place as u16)));
+    if let Some(procedure) = first_bad_count(contract.counts) {
+        return Err(ContractFault::Count(procedure));
     }
-    AdmissionAnswer::Admitted
+    Ok(())
 }
 
 // Refusals 30 to 34, 7 and 8: nodes, rules and the number of facts.
-fn admit_expressions(
-    symbols: usize,
-    output_states: usize,
-    counts: &[u16],
-    nodes: &[u16],
-    rules: &[u16],
-) -> AdmissionAnswer
-    requires small_counts { SmallCounts output_states counts.now }
-    requires nodes_bound { node_count nodes.now ≤ 256 }
-    ensures { admission_answer result ≡ admitted_unless (expressions symbols output_states counts.now nodes.now rules.now) }
+fn admit_expressions(contract: &ContractTables) -> Result<(), ContractFault>
+    requires shape { shape (handed contract.now) ≡ fine }
+    requires types { types (handed contract.now) ≡ fine }
+    ensures { admission_answer result ≡ admitted_unless (expressions (handed contract.now)) }
 {
-    let answer = admit_nodes(symbols, counts, nodes);
-    let AdmissionAnswer::Admitted = answer else {
-        return answer;
-    };
-    let rule = first_bad_rule(symbols, counts, nodes, rules);
-    if rule < rules.len() / 3 {
-        return AdmissionAnswer::Refused(ContractFault::Rule(rule));
+    admit_nodes(contract.symbols, contract.counts, contract.nodes)?;
+    if let Some(rule) = first_bad_rule(
+        contract.symbols,
+        contract.counts,
+        contract.nodes,
+        contract.rules,
+    ) {
+        return Err(ContractFault::Rule(rule));
     }
-    let total = fact_total(output_states, counts);
-    if 256 < total {
-        return AdmissionAnswer::Refused(ContractFault::Facts(total));
+    let total = fact_total(contract.output_states, contract.counts);
+    if MOST_FACTS < total {
+        return Err(ContractFault::Facts(total));
     }
-    AdmissionAnswer::Admitted
+    Ok(())
 }
 
 // Document 01's admission.
-pub fn admit(
-    symbols: usize,
-    input_states: usize,
-    output_states: usize,
-    counts: &[u16],
-    input_rows: &[u16],
-    input_marks: &[u16],
-    output_table: &[u16],
-    output_marks: &[u16],
-    nodes: &[u16],
-    rules: &[u16],
-) -> AdmissionAnswer
-    ensures { admission_answer result ≡ model.admit (contract symbols input_states output_states counts.now input_rows.now
-        input_marks.now output_table.now output_marks.now nodes.now rules.now) }
+pub fn admit(contract: &ContractTables) -> Result<(), ContractFault>
+    ensures { admission_answer result ≡ model.admit (handed contract.now) }
 {
-    let lengths = Lengths {
-        input_rows: input_rows.len(),
-        input_marks: input_marks.len(),
-        output_table: output_table.len(),
-        output_marks: output_marks.len(),
-        nodes: nodes.len(),
-        rules: rules.len(),
-    };
-    let shape = admit_shape(symbols, input_states, output_states, counts.len(), lengths);
-    let AdmissionAnswer::Admitted = shape else {
-        return shape;
-    };
-    let types = admit_types(
-        symbols,
-        input_states,
-        output_states,
-        counts,
-        input_rows,
-        input_marks,
-        output_table,
-        output_marks,
-    );
-    let AdmissionAnswer::Admitted = types else {
-        return types;
-    };
-    admit_expressions(symbols, output_states, counts, nodes, rules)
+    admit_shape(contract)?;
+    admit_types(contract)?;
+    admit_expressions(contract)
 }

@@ -1,2 +1,3 @@
--- Lemmas that the proofs of this crate's functions cite.
+-- Lemmas that the proofs of this crate's functions cite, and what a search tells of its table.
 pub mod Bounds
+pub mod Found

@@ -2,13 +2,12 @@
 -- one part comes after another.
 use mathlib.Core.Path.{◌≡◌, refl, sym, ap, ◌∙◌}
 use Prim.Native.Nat.{ℕ}
+use Rattle.std.specs.Prelude.{Result, Ok, Err}
 use Rattle.model.specs.Answers.{Verdict, fine, refused, ◌then◌, Answer, admitted, refusal, given}
 use Rattle.model.specs.Admission.{admitted_unless}
 use Rattle.model.proofs.Laws.Answers.{refusal_admits_nothing, given_fine, given_refused, given_passed, given_stopped, given_admitted, then_refused}
 use Rattle.answers.specs.declared.ContractFault.{ContractFault}
 use Rattle.answers.specs.declared.ContractFault.TheVariants as fault
-use Rattle.answers.specs.declared.AdmissionAnswer.{AdmissionAnswer}
-use Rattle.answers.specs.declared.AdmissionAnswer.TheVariants.{Admitted, Refused}
 use Rattle.answers.specs.Numbers.{contract_refusal, admission_answer}
 
 -- a fault is a refusal, and no admission
@@ -47,11 +46,11 @@ pub answer_fine : (v : Verdict) → v ≡ fine → admitted ≡ admitted_unless 
 answer_fine v e = sym (given_fine refusal admitted v e)
 
 -- a part that admits refuses nothing
-pub part_passed : (a : AdmissionAnswer) (v : Verdict) → a ≡ Admitted → admission_answer a ≡ admitted_unless v → v ≡ fine
+pub part_passed : (a : Result Unit ContractFault) (v : Verdict) → a ≡ Ok tt → admission_answer a ≡ admitted_unless v → v ≡ fine
 part_passed a v e h = given_admitted v (sym h ∙ ap admission_answer e)
 
 -- and what a part refuses is the answer of every verdict that refuses the same
-pub part_refused : (a : AdmissionAnswer) (f : ContractFault) (v w : Verdict) → a ≡ Refused f → admission_answer a ≡ admitted_unless v
+pub part_refused : (a : Result Unit ContractFault) (f : ContractFault) (v w : Verdict) → a ≡ Err f → admission_answer a ≡ admitted_unless v
     → ((number place : ℕ) → v ≡ refused number place → w ≡ refused number place)
     → admission_answer a ≡ admitted_unless w
 part_refused a f v w e h same =
@@ -59,6 +58,6 @@ part_refused a f v w e h same =
     ap admission_answer e ∙ r.says ∙ answer_last w r.number r.place (same r.number r.place r.verdict)
 
 -- as it is with whatever comes after
-pub part_stopped : (a : AdmissionAnswer) (f : ContractFault) (v w : Verdict) → a ≡ Refused f → admission_answer a ≡ admitted_unless v
+pub part_stopped : (a : Result Unit ContractFault) (f : ContractFault) (v w : Verdict) → a ≡ Err f → admission_answer a ≡ admitted_unless v
     → admission_answer a ≡ admitted_unless (v then w)
 part_stopped a f v w e h = part_refused a f v (v then w) e h (λ number place. then_refused v w number place)

@@ -1,5 +1,5 @@
 -- "For an answer that is an enum, a definition gives this paper's number and values for each case."
-use Rattle.std.specs.Prelude.{ℕ}
+use Rattle.std.specs.Prelude.{ℕ, Result, Ok, Err}
 use Rattle.model.specs.Answers.{Answer, refusal, stopped, admitted, judged, pass, tree, ran, written}
 use Rattle.answers.specs.declared.NodeFault.{NodeFault}
 use Rattle.answers.specs.declared.NodeFault.TheVariants as node
@@ -7,20 +7,23 @@ use Rattle.answers.specs.declared.ContractFault.{ContractFault}
 use Rattle.answers.specs.declared.ContractFault.TheVariants as contract
 use Rattle.answers.specs.declared.DocumentFault.{DocumentFault}
 use Rattle.answers.specs.declared.DocumentFault.TheVariants as document
-use Rattle.answers.specs.declared.AdmissionAnswer.{AdmissionAnswer}
-use Rattle.answers.specs.declared.AdmissionAnswer.TheVariants as admission
 use Rattle.answers.specs.declared.Judgement.{Judgement}
 use Rattle.answers.specs.declared.Judgement.TheVariants as judgement
-use Rattle.answers.specs.declared.JudgingAnswer.{JudgingAnswer}
-use Rattle.answers.specs.declared.JudgingAnswer.TheVariants as judging
-use Rattle.answers.specs.declared.CheckingAnswer.{CheckingAnswer}
-use Rattle.answers.specs.declared.CheckingAnswer.TheVariants as checking
-use Rattle.answers.specs.declared.RunningAnswer.{RunningAnswer}
-use Rattle.answers.specs.declared.RunningAnswer.TheVariants as running
-use Rattle.answers.specs.declared.WritingAnswer.{WritingAnswer}
-use Rattle.answers.specs.declared.WritingAnswer.TheVariants as writing
+use Rattle.answers.specs.declared.Judged.{Judged}
+use Rattle.answers.specs.declared.JudgingRefusal.{JudgingRefusal}
+use Rattle.answers.specs.declared.JudgingRefusal.TheVariants as judging
+use Rattle.answers.specs.declared.Checked.{Checked}
+use Rattle.answers.specs.declared.Checked.TheVariants as checked
+use Rattle.answers.specs.declared.CheckingRefusal.{CheckingRefusal}
+use Rattle.answers.specs.declared.CheckingRefusal.TheVariants as checking
+use Rattle.answers.specs.declared.Ran.{Ran}
+use Rattle.answers.specs.declared.RunningRefusal.{RunningRefusal}
+use Rattle.answers.specs.declared.RunningRefusal.TheVariants as running
+use Rattle.answers.specs.declared.WritingRefusal.{WritingRefusal}
+use Rattle.answers.specs.declared.WritingRefusal.TheVariants as writing
 use Rattle.answers.specs.declared.numbered.Answer as code
 use Rattle.answers.specs.declared.numbered.Answer.TheVariants as answer
+use Rattle.answers.specs.declared.numbered.Refusal.{Refusal}
 
 -- "30 tag, 31 name, 32 child, 33 a reference not below the node, 34 unused field filled"
 abbrev pub node_fault_number : NodeFault → ℕ
@@ -46,9 +49,32 @@ abbrev pub document_refusal : DocumentFault → Answer
 document_refusal (document.Length numbers) = refusal 11 numbers
 document_refusal (document.Number place) = refusal 12 place
 
-abbrev pub admission_answer : AdmissionAnswer → Answer
-admission_answer admission.Admitted = admitted
-admission_answer (admission.Refused fault) = contract_refusal fault
+abbrev pub judging_refusal : JudgingRefusal → Answer
+judging_refusal (judging.Contract fault) = contract_refusal fault
+judging_refusal judging.Buffer = refusal 9 0
+judging_refusal (judging.Document fault) = document_refusal fault
+
+abbrev pub checking_refusal : CheckingRefusal → Answer
+checking_refusal (checking.Contract fault) = contract_refusal fault
+checking_refusal (checking.Buffer place) = refusal 9 place
+
+abbrev pub running_refusal : RunningRefusal → Answer
+running_refusal (running.Contract fault) = contract_refusal fault
+running_refusal running.Buffer = refusal 9 0
+running_refusal (running.Document fault) = document_refusal fault
+running_refusal (running.NoRule procedure) = refusal 13 procedure.0
+running_refusal (running.NoRow rows) = refusal 14 rows
+running_refusal (running.TooManyCalls most) = refusal 15 most
+
+abbrev pub writing_refusal : WritingRefusal → Answer
+writing_refusal writing.Rows = refusal 16 0
+writing_refusal (writing.Row row) = refusal 17 row
+writing_refusal (writing.Number row) = refusal 18 row
+writing_refusal (writing.Room numbers) = refusal 19 numbers
+
+abbrev pub admission_answer : Result Unit ContractFault → Answer
+admission_answer (Ok _) = admitted
+admission_answer (Err fault) = contract_refusal fault
 
 -- "0, not of the input type; 1, of it with no output outside the output type; 2, of it with such an output"; "judging gives 0 for any
 -- other tree" than one of one root
@@ -57,42 +83,42 @@ judgement_result judgement.Outside = 0
 judgement_result judgement.Sound = 1
 judgement_result judgement.Breaking = 2
 
-abbrev pub judging_answer : JudgingAnswer → Answer
-judging_answer (judging.Contract fault) = contract_refusal fault
-judging_answer judging.Buffer = refusal 9 0
-judging_answer (judging.Document fault) = document_refusal fault
-judging_answer (judging.Judged what taken) = judged (judgement_result what) taken
+abbrev pub judging_answer : Result Judged JudgingRefusal → Answer
+judging_answer (Ok j) = judged (judgement_result j.judgement) j.taken
+judging_answer (Err why) = judging_refusal why
 
-abbrev pub checking_answer : CheckingAnswer → Answer
-checking_answer (checking.Contract fault) = contract_refusal fault
-checking_answer (checking.Buffer place) = refusal 9 place
-checking_answer (checking.Pass count) = pass count
-checking_answer (checking.Tree row) = tree row
-checking_answer (checking.Stopped limit height) = stopped limit height
+abbrev pub checked_answer : Checked → Answer
+checked_answer (checked.Pass count) = pass count
+checked_answer (checked.Tree row) = tree row
+checked_answer (checked.Stopped limit height) = stopped limit height
 
-abbrev pub running_answer : RunningAnswer → Answer
-running_answer (running.Contract fault) = contract_refusal fault
-running_answer running.Buffer = refusal 9 0
-running_answer (running.Document fault) = document_refusal fault
-running_answer (running.NoRule procedure) = refusal 13 procedure.0
-running_answer (running.NoRow rows) = refusal 14 rows
-running_answer (running.TooManyCalls most) = refusal 15 most
-running_answer (running.Ran root used taken) = ran root used taken
+abbrev pub checking_answer : Result Checked CheckingRefusal → Answer
+checking_answer (Ok c) = checked_answer c
+checking_answer (Err why) = checking_refusal why
 
-abbrev pub writing_answer : WritingAnswer → Answer
-writing_answer writing.Rows = refusal 16 0
-writing_answer (writing.Row row) = refusal 17 row
-writing_answer (writing.Number row) = refusal 18 row
-writing_answer (writing.Room numbers) = refusal 19 numbers
-writing_answer (writing.Written count) = written count
+abbrev pub running_answer : Result Ran RunningRefusal → Answer
+running_answer (Ok r) = ran r.root r.used r.taken
+running_answer (Err why) = running_refusal why
+
+abbrev pub writing_answer : Result ℕ WritingRefusal → Answer
+writing_answer (Ok count) = written count
+writing_answer (Err why) = writing_refusal why
+
+-- a refusal by its number and place
+abbrev pub refusal_of : Refusal → Answer
+refusal_of r = refusal r.number r.place
+
+-- the answer of any operation, where nothing is refused
+abbrev pub answered : code.Answer → Answer
+answered answer.Admitted = admitted
+answered (answer.Judged result taken) = judged result taken
+answered (answer.Tree row) = tree row
+answered (answer.Pass count) = pass count
+answered (answer.Ran root used taken) = ran root used taken
+answered (answer.Written count) = written count
+answered (answer.Stopped limit height) = stopped limit height
 
 -- the answer of any operation
-abbrev pub numbered : code.Answer → Answer
-numbered answer.Admitted = admitted
-numbered (answer.Judged result taken) = judged result taken
-numbered (answer.Tree row) = tree row
-numbered (answer.Pass count) = pass count
-numbered (answer.Ran root used taken) = ran root used taken
-numbered (answer.Written count) = written count
-numbered (answer.Refused number place) = refusal number place
-numbered (answer.Stopped limit height) = stopped limit height
+abbrev pub numbered : Result code.Answer Refusal → Answer
+numbered (Ok a) = answered a
+numbered (Err r) = refusal_of r

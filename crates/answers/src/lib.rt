@@ -1,13 +1,19 @@
-// The answers of the five operations, as enums of meaningful cases. specs/Numbers.antt gives document 01's number and
-// values for each case; promises use it. `numbered` has the answers of all operations as one enum with these numbers.
+// What the five operations answer: each a result, with an error type of its own where it refuses more than the contract.
+// specs/Numbers.antt gives document 01's number and values for each case; promises use it. `numbered` has the answers of all operations
+// as one type with these numbers.
 #![tactic(auto)]
 
 pub mod numbered;
 
+ghost use Rattle.std.specs.Prelude.{◌≡◌};
+ghost use Rattle.answers.specs.declared.JudgingRefusal.TheVariants as judging;
+ghost use Rattle.answers.specs.declared.CheckingRefusal.TheVariants as checking;
+ghost use Rattle.answers.specs.declared.RunningRefusal.TheVariants as running;
+
 use tables::Procedure;
 
 // What is wrong with an expression node.
-#[derive(Clone, Copy)]
+#[derive(Clone, Copy, Debug, PartialEq, Eq)]
 pub enum NodeFault {
     // It is no parameter, no output symbol and no call.
     Tag,
@@ -22,7 +28,7 @@ pub enum NodeFault {
 }
 
 // Why a contract is not admitted, with the place.
-#[derive(Clone, Copy)]
+#[derive(Clone, Copy, Debug, PartialEq, Eq)]
 pub enum ContractFault {
     // Symbols, input states, output states or procedures are too few or too many.
     Size(usize),
@@ -42,15 +48,8 @@ pub enum ContractFault {
     Facts(usize),
 }
 
-// What admission says.
-#[derive(Clone, Copy)]
-pub enum AdmissionAnswer {
-    Admitted,
-    Refused(ContractFault),
-}
-
 // Why numbers begin with no document, with the place.
-#[derive(Clone, Copy)]
+#[derive(Clone, Copy, Debug, PartialEq, Eq)]
 pub enum DocumentFault {
     // How many numbers there are, where the first 1,023 hold neither a fault nor the end of the tree and more follow.
     Length(usize),
@@ -59,7 +58,7 @@ pub enum DocumentFault {
 }
 
 // What a document is for a contract.
-#[derive(Clone, Copy)]
+#[derive(Clone, Copy, Debug, PartialEq, Eq)]
 pub enum Judgement {
     // Not taken: not of the input type, or not of one root.
     Outside,
@@ -69,23 +68,26 @@ pub enum Judgement {
     Breaking,
 }
 
-// What judging says.
-#[derive(Clone, Copy)]
-pub enum JudgingAnswer {
+// A document that is judged.
+#[derive(Clone, Copy, Debug, PartialEq, Eq)]
+pub struct Judged {
+    pub judgement: Judgement,
+    // How many numbers it took.
+    pub taken: usize,
+}
+
+// Why judging refuses.
+#[derive(Clone, Copy, Debug, PartialEq, Eq)]
+pub enum JudgingRefusal {
     Contract(ContractFault),
     // The kind buffer is not five words.
     Buffer,
     Document(DocumentFault),
-    // What the document is, and how many numbers it took.
-    Judged(Judgement, usize),
 }
 
-// What checking says.
-#[derive(Clone, Copy)]
-pub enum CheckingAnswer {
-    Contract(ContractFault),
-    // The limit, the row buffer or the word buffer has a wrong size.
-    Buffer(usize),
+// A contract that is checked.
+#[derive(Clone, Copy, Debug, PartialEq, Eq)]
+pub enum Checked {
     // No document breaks the contract: how many kinds there are.
     Pass(usize),
     // The tree of this row breaks the contract.
@@ -94,9 +96,27 @@ pub enum CheckingAnswer {
     Stopped(usize, usize),
 }
 
-// What running says.
-#[derive(Clone, Copy)]
-pub enum RunningAnswer {
+// Why checking refuses.
+#[derive(Clone, Copy, Debug, PartialEq, Eq)]
+pub enum CheckingRefusal {
+    Contract(ContractFault),
+    // The limit, the row buffer or the word buffer has a wrong size.
+    Buffer(usize),
+}
+
+// A run that is done.
+#[derive(Clone, Copy, Debug, PartialEq, Eq)]
+pub struct Ran {
+    pub root: usize,
+    // How many rows are used.
+    pub used: usize,
+    // How many numbers the document took.
+    pub taken: usize,
+}
+
+// Why running refuses.
+#[derive(Clone, Copy, Debug, PartialEq, Eq)]
+pub enum RunningRefusal {
     Contract(ContractFault),
     // The row buffer's length.
     Buffer,
@@ -107,13 +127,11 @@ pub enum RunningAnswer {
     NoRow(usize),
     // A call past the last that is made: how many are made.
     TooManyCalls(usize),
-    // The root row, how many rows are used, and how many numbers the document took.
-    Ran(usize, usize, usize),
 }
 
-// What writing out says.
-#[derive(Clone, Copy)]
-pub enum WritingAnswer {
+// Why writing out refuses.
+#[derive(Clone, Copy, Debug, PartialEq, Eq)]
+pub enum WritingRefusal {
     // The rows' length.
     Rows,
     // A bad row.
@@ -122,6 +140,44 @@ pub enum WritingAnswer {
     Number(usize),
     // The tree does not fit: the buffer's length.
     Room(usize),
-    // How many numbers are written.
-    Written(usize),
+}
+
+impl From<ContractFault> for JudgingRefusal {
+    ghost from_gives = { λ fault refusal. refusal ≡ judging.Contract fault };
+
+    fn from(fault: ContractFault) -> JudgingRefusal {
+        JudgingRefusal::Contract(fault)
+    }
+}
+
+impl From<DocumentFault> for JudgingRefusal {
+    ghost from_gives = { λ fault refusal. refusal ≡ judging.Document fault };
+
+    fn from(fault: DocumentFault) -> JudgingRefusal {
+        JudgingRefusal::Document(fault)
+    }
+}
+
+impl From<ContractFault> for CheckingRefusal {
+    ghost from_gives = { λ fault refusal. refusal ≡ checking.Contract fault };
+
+    fn from(fault: ContractFault) -> CheckingRefusal {
+        CheckingRefusal::Contract(fault)
+    }
+}
+
+impl From<ContractFault> for RunningRefusal {
+    ghost from_gives = { λ fault refusal. refusal ≡ running.Contract fault };
+
+    fn from(fault: ContractFault) -> RunningRefusal {
+        RunningRefusal::Contract(fault)
+    }
+}
+
+impl From<DocumentFault> for RunningRefusal {
+    ghost from_gives = { λ fault refusal. refusal ≡ running.Document fault };
+
+    fn from(fault: DocumentFault) -> RunningRefusal {
+        RunningRefusal::Document(fault)
+    }
 }

@@ -1,14 +1,15 @@
 // An answer of any of the five operations, in document 01's numbers.
 ghost use Rattle.std.specs.Prelude.{◌≡◌};
-ghost use Rattle.answers.specs.Numbers.{numbered, node_fault_number, contract_refusal, document_refusal, admission_answer, judgement_result, judging_answer, checking_answer, running_answer, writing_answer};
+ghost use Rattle.answers.specs.Numbers.{numbered, refusal_of, node_fault_number, contract_refusal, document_refusal, judging_refusal, checking_refusal, running_refusal, writing_refusal, admission_answer, judgement_result, judging_answer, checking_answer, running_answer, writing_answer};
 
 use crate::{
-    AdmissionAnswer, CheckingAnswer, ContractFault, DocumentFault, Judgement, JudgingAnswer,
-    NodeFault, RunningAnswer, WritingAnswer,
+    Checked, CheckingRefusal, ContractFault, DocumentFault, Judged, Judgement, JudgingRefusal,
+    NodeFault, Ran, RunningRefusal, WritingRefusal,
 };
+use tables::Numbered;
 
-// The cases of the model's answer, with their values.
-#[derive(Clone, Copy)]
+// The cases of the model's answer in which nothing is refused, with their values.
+#[derive(Clone, Copy, Debug, PartialEq, Eq)]
 pub enum Answer {
     Admitted,
     // The result, and the numbers taken.
@@ -18,9 +19,15 @@ pub enum Answer {
     // The root row, the rows used, and the numbers taken.
     Ran(usize, usize, usize),
     Written(usize),
-    Refused(usize, usize),
     // Refusal 10: the limit and the height.
     Stopped(usize, usize),
+}
+
+// A refusal in document 01's numbers, which C, scripts and the pages for callers know it by.
+#[derive(Clone, Copy, Debug, PartialEq, Eq)]
+pub struct Refusal {
+    pub number: usize,
+    pub place: usize,
 }
 
 // The number of a node's fault.
@@ -36,27 +43,100 @@ fn node_fault_number(fault: NodeFault) -> usize
     }
 }
 
-pub fn of_contract(fault: ContractFault) -> Answer
-    ensures { numbered result ≡ contract_refusal fault }
-{
-    match fault {
-        ContractFault::Size(place) => Answer::Refused(1, place),
-        ContractFault::Length(place) => Answer::Refused(2, place),
-        ContractFault::InputRow(row) => Answer::Refused(3, row),
-        ContractFault::Entry(index) => Answer::Refused(4, index),
-        ContractFault::Count(procedure) => Answer::Refused(5, procedure.0 as usize),
-        ContractFault::Node(fault, node) => Answer::Refused(node_fault_number(fault), node),
-        ContractFault::Rule(rule) => Answer::Refused(7, rule),
-        ContractFault::Facts(total) => Answer::Refused(8, total),
+impl From<ContractFault> for Refusal {
+    ghost from_gives = { λ fault refusal. refusal_of refusal ≡ contract_refusal fault };
+
+    fn from(fault: ContractFault) -> Refusal {
+        let (number, place) = match fault {
+            ContractFault::Size(place) => (1, place),
+            ContractFault::Length(place) => (2, place),
+            ContractFault::InputRow(row) => (3, row),
+            ContractFault::Entry(index) => (4, index),
+            ContractFault::Count(procedure) => (5, procedure.number()),
+            ContractFault::Node(fault, node) => (node_fault_number(fault), node),
+            ContractFault::Rule(rule) => (7, rule),
+            ContractFault::Facts(total) => (8, total),
+        };
+        Refusal { number, place }
     }
 }
 
-fn of_document(fault: DocumentFault) -> Answer
-    ensures { numbered result ≡ document_refusal fault }
-{
-    match fault {
-        DocumentFault::Length(numbers) => Answer::Refused(11, numbers),
-        DocumentFault::Number(place) => Answer::Refused(12, place),
+impl From<DocumentFault> for Refusal {
+    ghost from_gives = { λ fault refusal. refusal_of refusal ≡ document_refusal fault };
+
+    fn from(fault: DocumentFault) -> Refusal {
+        let (number, place) = match fault {
+            DocumentFault::Length(numbers) => (11, numbers),
+            DocumentFault::Number(place) => (12, place),
+        };
+        Refusal { number, place }
+    }
+}
+
+impl From<JudgingRefusal> for Refusal {
+    ghost from_gives = { λ why refusal. refusal_of refusal ≡ judging_refusal why };
+
+    fn from(why: JudgingRefusal) -> Refusal {
+        match why {
+            JudgingRefusal::Contract(fault) => Refusal::from(fault),
+            JudgingRefusal::Buffer => Refusal {
+                number: 9,
+                place: 0,
+            },
+            JudgingRefusal::Document(fault) => Refusal::from(fault),
+        }
+    }
+}
+
+impl From<CheckingRefusal> for Refusal {
+    ghost from_gives = { λ why refusal. refusal_of refusal ≡ checking_refusal why };
+
+    fn from(why: CheckingRefusal) -> Refusal {
+        match why {
+            CheckingRefusal::Contract(fault) => Refusal::from(fault),
+            CheckingRefusal::Buffer(place) => Refusal { number: 9, place },
+        }
+    }
+}
+
+impl From<RunningRefusal> for Refusal {
+    ghost from_gives = { λ why refusal. refusal_of refusal ≡ running_refusal why };
+
+    fn from(why: RunningRefusal) -> Refusal {
+        match why {
+            RunningRefusal::Contract(fault) => Refusal::from(fault),
+            RunningRefusal::Buffer => Refusal {
+                number: 9,
+                place: 0,
+            },
+            RunningRefusal::Document(fault) => Refusal::from(fault),
+            RunningRefusal::NoRule(procedure) => Refusal {
+                number: 13,
+                place: procedure.number(),
+            },
+            RunningRefusal::NoRow(rows) => Refusal {
+                number: 14,
+                place: rows,
+            },
+            RunningRefusal::TooManyCalls(most) => Refusal {
+                number: 15,
+                place: most,
+            },
+        }
+    }
+}
+
+impl From<WritingRefusal> for Refusal {
+    ghost from_gives = { λ why refusal. refusal_of refusal ≡ writing_refusal why };
+
+    fn from(why: WritingRefusal) -> Refusal {
+        let (number, place) = match why {
+            WritingRefusal::Rows => (16, 0),
+            WritingRefusal::Row(row) => (17, row),
+            WritingRefusal::Number(row) => (18, row),
+            WritingRefusal::Room(numbers) => (19, numbers),
+        };
+        Refusal { number, place }
     }
 }
 
@@ -71,60 +151,39 @@ fn result_of(judgement: Judgement) -> usize
     }
 }
 
-pub fn of_admission(answer: AdmissionAnswer) -> Answer
+pub fn of_admission(answer: Result<(), ContractFault>) -> Result<Answer, Refusal>
     ensures { numbered result ≡ admission_answer answer }
 {
-    match answer {
-        AdmissionAnswer::Admitted => Answer::Admitted,
-        AdmissionAnswer::Refused(fault) => of_contract(fault),
-    }
+    answer?;
+    Ok(Answer::Admitted)
 }
 
-pub fn of_judging(answer: JudgingAnswer) -> Answer
+pub fn of_judging(answer: Result<Judged, JudgingRefusal>) -> Result<Answer, Refusal>
     ensures { numbered result ≡ judging_answer answer }
 {
-    match answer {
-        JudgingAnswer::Contract(fault) => of_contract(fault),
-        JudgingAnswer::Buffer => Answer::Refused(9, 0),
-        JudgingAnswer::Document(fault) => of_document(fault),
-        JudgingAnswer::Judged(judgement, taken) => Answer::Judged(result_of(judgement), taken),
-    }
+    let judged = answer?;
+    Ok(Answer::Judged(result_of(judged.judgement), judged.taken))
 }
 
-pub fn of_checking(answer: CheckingAnswer) -> Answer
+pub fn of_checking(answer: Result<Checked, CheckingRefusal>) -> Result<Answer, Refusal>
     ensures { numbered result ≡ checking_answer answer }
 {
-    match answer {
-        CheckingAnswer::Contract(fault) => of_contract(fault),
-        CheckingAnswer::Buffer(place) => Answer::Refused(9, place),
-        CheckingAnswer::Pass(count) => Answer::Pass(count),
-        CheckingAnswer::Tree(row) => Answer::Tree(row),
-        CheckingAnswer::Stopped(limit, height) => Answer::Stopped(limit, height),
-    }
+    Ok(match answer? {
+        Checked::Pass(count) => Answer::Pass(count),
+        Checked::Tree(row) => Answer::Tree(row),
+        Checked::Stopped(limit, height) => Answer::Stopped(limit, height),
+    })
 }
 
-pub fn of_running(answer: RunningAnswer) -> Answer
+pub fn of_running(answer: Result<Ran, RunningRefusal>) -> Result<Answer, Refusal>
     ensures { numbered result ≡ running_answer answer }
 {
-    match answer {
-        RunningAnswer::Contract(fault) => of_contract(fault),
-        RunningAnswer::Buffer => Answer::Refused(9, 0),
-        RunningAnswer::Document(fault) => of_document(fault),
-        RunningAnswer::NoRule(procedure) => Answer::Refused(13, procedure.0 as usize),
-        RunningAnswer::NoRow(rows) => Answer::Refused(14, rows),
-        RunningAnswer::TooManyCalls(most) => Answer::Refused(15, most),
-        RunningAnswer::Ran(root, used, taken) => Answer::Ran(root, used, taken),
-    }
+    let ran = answer?;
+    Ok(Answer::Ran(ran.root, ran.used, ran.taken))
 }
 
-pub fn of_writing(answer: WritingAnswer) -> Answer
+pub fn of_writing(answer: Result<usize, WritingRefusal>) -> Result<Answer, Refusal>
     ensures { numbered result ≡ writing_answer answer }
 {
-    match answer {
-        WritingAnswer::Rows => Answer::Refused(16, 0),
-        WritingAnswer::Row(row) => Answer::Refused(17, row),
-        WritingAnswer::Number(row) => Answer::Refused(18, row),
-        WritingAnswer::Room(numbers) => Answer::Refused(19, numbers),
-        WritingAnswer::Written(count) => Answer::Written(count),
-    }
+    Ok(Answer::Written(answer?))
 }

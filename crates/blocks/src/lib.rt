@@ -18,6 +18,7 @@ pub fn no_facts() -> [u64; 6]
 }
 
 // The 64 facts from a number on.
+#[tactic(auto, unfolding(kind_words::specs::Blocks::facts_from))]
 pub fn facts_from(kind: &[u64; 6], number: usize) -> u64
     requires { number < most_facts }
     ensures { result ≡ facts_from kind.now number }
@@ -29,6 +30,7 @@ pub fn facts_from(kind: &[u64; 6], number: usize) -> u64
 }
 
 // A block of facts joined to those from a number on.
+#[tactic(auto, unfolding(kind_words::specs::Blocks::with_block))]
 pub fn put_block(kind: &mut [u64; 6], block: u64, number: usize)
     requires { number < most_facts }
     ensures { kind.new ≡ with_block kind.old block number }
@@ -50,7 +52,7 @@ pub fn assignments(states: usize, count: u16) -> u64
     if count == 0 {
         return 1;
     }
-    power(states, count as usize) as u64
+    power(states, usize::from(count)) as u64
 }
 
 // A lane of ones.
@@ -62,22 +64,19 @@ pub fn lane_of_ones(width: u64) -> u64
 }
 
 // Lanes of `narrow` bits made lanes of `width` bits.
-pub fn widen(states: usize, width: u64, narrow: u64, ones: u64, word: u64) -> u64
-    requires { Sized states width × (0 < narrow) × (narrow ≤ width) × (ones ≡ 2 ^ narrow - 1) }
+#[tactic(auto, unfolding(kind_words::specs::Blocks::widened))]
+pub fn widen(states: usize, width: u64, narrow: u64, word: u64) -> u64
+    requires { Sized states width × (0 < narrow) × (narrow < 64) × (narrow ≤ width) }
     ensures { result ≡ widened states width narrow word }
 {
     if narrow == width {
         return word;
     }
+    let ones = lane_of_ones(narrow);
     let mut wide: u64 = 0;
-    let mut from: u64 = 0;
-    let mut to: u64 = 0;
-    let mut q: usize = 0;
-    while q < states {
-        wide = wide | up(lane(word, from, ones), to);
-        from += narrow;
-        to += width;
-        q += 1;
+    for q in 0..states {
+        let state = q as u64;
+        wide |= up(lane(word, state * narrow, ones), state * width);
     }
     wide
 }
@@ -88,17 +87,14 @@ pub fn narrow_lane(word: u64, start: u64, step: u64, narrow: u64) -> u64
     ensures { result ≡ narrowed_lane word start step narrow }
 {
     let mut bits: u64 = 0;
-    let mut from: u64 = start;
-    let mut to: u64 = 0;
-    while to < narrow {
-        bits = bits | up(lane(word, from, 1), to);
-        from += step;
-        to += 1;
+    for c in 0..narrow {
+        bits |= up(lane(word, start + c * step, 1), c);
     }
     bits
 }
 
 // Every `step`-th bit of each lane of `width` bits, as lanes of `narrow` bits.
+#[tactic(auto, unfolding(kind_words::specs::Blocks::narrowed))]
 pub fn narrow_word(states: usize, width: u64, narrow: u64, step: u64, word: u64) -> u64
     requires { Sized states width × (0 < narrow) × (narrow < 64) × (narrow ≤ width) × (narrow * step ≤ width) × (0 < step) }
     ensures { result ≡ narrowed states width narrow step word }
@@ -107,14 +103,12 @@ pub fn narrow_word(states: usize, width: u64, narrow: u64, step: u64, word: u64)
         return word;
     }
     let mut block: u64 = 0;
-    let mut from: u64 = 0;
-    let mut to: u64 = 0;
-    let mut q: usize = 0;
-    while q < states {
-        block = block | up(narrow_lane(word, from, step, narrow), to);
-        from += width;
-        to += narrow;
-        q += 1;
+    for q in 0..states {
+        let state = q as u64;
+        block |= up(
+            narrow_lane(word, state * width, step, narrow),
+            state * narrow,
+        );
     }
     block
 }

@@ -9,7 +9,7 @@ ghost use Rattle.breaking.specs.Verdicts.{accepting, taking, mistaken, breaking,
 use root_marks::has_one_root;
 
 // A bit for each input state that is accepted, and one for each output state that is not.
-#[derive(Clone, Copy)]
+#[derive(Clone, Copy, Debug, PartialEq, Eq)]
 pub struct Verdicts {
     pub accepted: u64,
     pub refused: u64,
@@ -20,10 +20,7 @@ fn with_bit(word: u64, place: usize, is_in: bool) -> u64
     requires { (place < 64) × (word < 2 ^ place) }
     ensures { result ≡ word + one_if is_in * 2 ^ place }
 {
-    if is_in {
-        return word + (1u64 << (place as u64));
-    }
-    word
+    word + (u64::from(is_in) << place as u64)
 }
 
 // The states that have this mark, as a word.
@@ -31,11 +28,9 @@ fn states_marked(marks: &[u16], mark: u16) -> u64
     requires { length marks.now ≤ 64 }
     ensures { result ≡ marked marks.now mark }
 {
-    let mut states = 0u64;
-    let mut q: usize = 0;
-    while q < marks.len() {
-        states = with_bit(states, q, marks[q] == mark);
-        q += 1;
+    let mut states: u64 = 0;
+    for (q, &marked) in marks.iter().enumerate() {
+        states = with_bit(states, q, marked == mark);
     }
     states
 }
@@ -51,7 +46,7 @@ pub fn verdicts_of(input_marks: &[u16], output_marks: &[u16]) -> Verdicts
     }
 }
 
-// Whether an accepted input state is in a kind.
+// Whether an accepted input state is in a kind. This and the test of facts are a line each, of another word and other states.
 fn of_input_type(verdicts: Verdicts, kind: &[u64; 6]) -> bool
     ensures { result ≡ accepting verdicts.accepted kind.now }
 {

@@ -1,36 +1,18 @@
 -- Chains as the code makes them, from the last number to the first; the rest of the table is kept.
-use Rattle.std.specs.Prelude.{◌≡◌, refl, List, ℕ, ◌+◌, ◌<◌, ◌≤◌, length, get_or, set}
-use Rattle.std.proofs.Common.{◌∙◌, arith, length-set, get_or-set_same, get_or-set_other}
-use Rattle.std.proofs.Math.Decide.{ℕ_discrete}
+use Rattle.std.specs.Prelude.{◌≡◌, List, ℕ, ◌+◌, ◌<◌, ◌≤◌, length, get_or, set}
+use Rattle.std.proofs.Common.{◌∙◌, arith, get_or-set_other}
 use Rattle.kind_words.specs.Sizes.{rule_symbols}
-use Rattle.kind_words.specs.Chains.{Chained, chained_none, chained_more, length_linked}
+use Rattle.kind_words.specs.Chains.{Chained, chained_more, length_linked}
 
 -- place j names no first number of a symbol
-abbrev NotFirst : (firsts j : ℕ) → Type 0
+abbrev pub NotFirst : (firsts j : ℕ) → Type 0
 NotFirst firsts j = (s : ℕ) → s < rule_symbols → j ≡ firsts + s → ⊥
 
--- the first number of the symbols below s is n
-pub record Emptied (firsts n s : ℕ) (before table : List ℕ) : Type 0 where
+-- the first number of each symbol is n
+pub record Emptied (firsts n : ℕ) (before table : List ℕ) : Type 0 where
   pub long : length table ≡ length before
-  pub first : (t : ℕ) → t < s → get_or table (firsts + t) 0 ≡ n
+  pub first : (t : ℕ) → t < rule_symbols → get_or table (firsts + t) 0 ≡ n
   pub kept : (j : ℕ) → NotFirst firsts j → get_or table j 0 ≡ get_or before j 0
-
-pub emptied_none : (firsts n : ℕ) (table : List ℕ) → Emptied firsts n 0 table table
-emptied_none firsts n table = record { long = refl; first = λ t l. absurd (omega arith); kept = λ j h. refl }
-
--- one symbol more
-pub emptied_more : (firsts n s : ℕ) (before table : List ℕ) (entry : ℕ) → Emptied firsts n s before table → firsts + rule_symbols ≤ length before → s < rule_symbols → entry ≡ n
-    → Emptied firsts n (s + 1) before (set table (firsts + s) entry)
-emptied_more firsts n s before table entry h room small e =
-    record {
-      long = length-set table (firsts + s) entry ∙ h.long;
-      first = λ t l. go t l (ℕ_discrete t s);
-      kept = λ j ne. get_or-set_other table (firsts + s) j entry 0 (ne s small) ∙ h.kept j ne;
-    }
-  where
-    go : (t : ℕ) → t < s + 1 → Dec (t ≡ s) → get_or (set table (firsts + s) entry) (firsts + t) 0 ≡ n
-    go t l (yes q) = rw q (get_or-set_same table (firsts + s) entry 0 (omega (arith, h.long)) ∙ e)
-    go t l (no ne) = get_or-set_other table (firsts + s) (firsts + t) entry 0 (λ q. ne (omega arith)) ∙ h.first t (omega arith)
 
 module _ (symbol_of : ℕ → ℕ) (n firsts nexts : ℕ) where
   -- place j is no part of the chains
@@ -44,11 +26,8 @@ module _ (symbol_of : ℕ → ℕ) (n firsts nexts : ℕ) where
     pub chained : Chained symbol_of n firsts nexts from table
     pub kept : (j : ℕ) → Apart j → get_or table j 0 ≡ get_or before j 0
 
-  pub chaining_none : (before table : List ℕ) → Emptied firsts n rule_symbols before table → Chaining n table table
-  chaining_none before table h = record { long = refl; chained = chained_none symbol_of n firsts nexts table h.first; kept = λ j ne. refl }
-
   -- all numbers, from the table before it was emptied
-  pub chaining_all : (before start table : List ℕ) → Emptied firsts n rule_symbols before start → Chaining 0 start table → Chaining 0 before table
+  pub chaining_all : (before start table : List ℕ) → Emptied firsts n before start → Chaining 0 start table → Chaining 0 before table
   chaining_all before start table e h =
       record { long = h.long ∙ e.long; chained = h.chained; kept = λ j ne. h.kept j ne ∙ e.kept j ne.not_first }
 

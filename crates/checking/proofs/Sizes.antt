@@ -1,13 +1,8 @@
 -- The sizes of the limit and the buffers: which one is wrong first, and what holds where none is.
-use mathlib.Core.Path.{◌≡◌, sym}
-use mathlib.Core.List.{List}
-use mathlib.Core.Bool.{true, false, ◌||◌}
-use Prim.Native.Nat.{ℕ, zero, suc, ◌*◌, ◌<◌, ◌≤◌}
-use native.Mathlib.Omega.{arith}
+use Rattle.std.specs.Prelude.{◌≡◌, true, false, ◌||◌, List, ℕ, zero, suc, ◌*◌, ◌<◌, ◌≤◌, ltb, length, Some, None}
+use Rattle.std.proofs.Common.{arith, sym}
 use borrow.Author.Tests.{eq-eqb, ne_eqb, eqb-true, ltb-false, not-false}
-use lib.Dec.{ltb}
-use lib.ListN.{length}
-use Rattle.foundation.specs.Search.{first, first_at, first_none, first_clear}
+use Rattle.foundation.specs.Search.{first_below, below_at, below_none}
 use Rattle.foundation.specs.TestLaws.{or_first, or_second}
 use Rattle.model.specs.Tables.{Contract}
 use Rattle.model.specs.Checking.{limit_wrong}
@@ -17,12 +12,12 @@ pub limit_few : (L : ℕ) → (ltb L 1 || ltb 512 L) ≡ false → L ≤ 512
 limit_few L e = ltb-false 512 L (or_second (ltb L 1) (ltb 512 L) e)
 
 module _ (C : Contract) (L rows words : ℕ) where
-  pub wrong_limit : (ltb L 1 || ltb 512 L) ≡ true → 0 ≡ first (limit_wrong C L rows words) 3
-  wrong_limit e = sym (first_at (limit_wrong C L rows words) 3 0 (omega arith) (λ j l. absurd (omega arith)) e)
+  pub wrong_limit : (ltb L 1 || ltb 512 L) ≡ true → Some 0 ≡ first_below (limit_wrong C L rows words) 3
+  wrong_limit e = sym (below_at (limit_wrong C L rows words) 3 0 (omega arith) (λ j l. absurd (omega arith)) e)
 
   module _ (a : (ltb L 1 || ltb 512 L) ≡ false) where
-    pub wrong_rows : (rows ≡ 3 * L → ⊥) → 1 ≡ first (limit_wrong C L rows words) 3
-    wrong_rows ne = sym (first_at (limit_wrong C L rows words) 3 1 (omega arith) below (rw (ne_eqb rows (3 * L) ne)))
+    pub wrong_rows : (rows ≡ 3 * L → ⊥) → Some 1 ≡ first_below (limit_wrong C L rows words) 3
+    wrong_rows ne = sym (below_at (limit_wrong C L rows words) 3 1 (omega arith) below (rw (ne_eqb rows (3 * L) ne)))
       where
         below : (j : ℕ) → j < 1 → limit_wrong C L rows words j ≡ false
         below zero l = a
@@ -34,11 +29,11 @@ module _ (C : Contract) (L rows words : ℕ) where
       before (suc zero) l = rw (eq-eqb rows (3 * L) b)
       before (suc (suc j)) l = absurd (omega arith)
 
-      pub wrong_words : (words ≡ 5 * L → ⊥) → 2 ≡ first (limit_wrong C L rows words) 3
-      wrong_words ne = sym (first_at (limit_wrong C L rows words) 3 2 (omega arith) before (rw (ne_eqb words (5 * L) ne)))
+      pub wrong_words : (words ≡ 5 * L → ⊥) → Some 2 ≡ first_below (limit_wrong C L rows words) 3
+      wrong_words ne = sym (below_at (limit_wrong C L rows words) 3 2 (omega arith) before (rw (ne_eqb words (5 * L) ne)))
 
-      pub none-wrong : words ≡ 5 * L → 3 ≡ first (limit_wrong C L rows words) 3
-      none-wrong w = sym (first_none (limit_wrong C L rows words) 3 all)
+      pub none-wrong : words ≡ 5 * L → None ≡ first_below (limit_wrong C L rows words) 3
+      none-wrong w = sym (below_none (limit_wrong C L rows words) 3 all)
         where
           all : (j : ℕ) → j < 3 → limit_wrong C L rows words j ≡ false
           all zero l = a
@@ -60,13 +55,3 @@ module _ (C : Contract) (L : ℕ) (rows words : List ℕ) where
 
     pub row_clear : 1 ≤ L
     row_clear = ltb-false L 1 (or_first (ltb L 1) (ltb 512 L) (clear 0 (omega arith)))
-
-  module _ (place : ℕ) (e : place ≡ first (limit_wrong C L (length rows) (length words)) 3) (h : 3 ≤ place) where
-    clear : (j : ℕ) → j < 3 → limit_wrong C L (length rows) (length words) j ≡ false
-    clear = first_clear (limit_wrong C L (length rows) (length words)) 3 (omega arith)
-
-    pub has_room : Room L 0 rows words
-    has_room = room_clear clear
-
-    pub has_row : 1 ≤ L
-    has_row = row_clear clear

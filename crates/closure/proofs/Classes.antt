@@ -6,6 +6,7 @@ use mathlib.Core.List.{List}
 use Prim.Native.Nat.{ℕ, ◌<◌, ◌≤◌}
 use native.Mathlib.Omega.{arith}
 use native.Mathlib.Decide.{dec_lt, ℕ_discrete}
+use Rattle.std.specs.Prelude.{Result, Ok, Err}
 use lib.ListN.{length, get_or, take}
 use lib.Seq.{length-take-le}
 use Rattle.model.specs.Tables.{Contract}
@@ -16,9 +17,8 @@ use Rattle.kind_slots.specs.Stored.{kind_in, padded_kind}
 use Rattle.row_marks.specs.Marks.{agrees-under}
 use Rattle.shown_kinds.specs.Chains.{PutInChains}
 use Rattle.shown_kinds.proofs.Firsts.{Firsts, first_rows_lem}
-use Rattle.closure.specs.Held.{held_over, Numbers, AllHeld, OpenAt, TellsPairs, FirstOpen, TellsSymbol}
-use Rattle.closure.specs.declared.Closure.{Closure}
-use Rattle.closure.specs.declared.Closure.TheVariants as closure
+use Rattle.closure.specs.Held.{held_over, NumbersOf, AllHeld, OpenAt, PairsTold, FirstOpen, SymbolTold}
+use Rattle.closure.specs.declared.Open.{Open}
 
 -- the first kinds that were put in front of a buffer
 module _ (words masks : List ℕ) (s : ℕ) {mask chains firsts : List ℕ} {found : ℕ} (is_mask : mask ≡ padded_kind masks s)
@@ -29,13 +29,13 @@ module _ (words masks : List ℕ) (s : ℕ) {mask chains firsts : List ℕ} {fou
   pub class_count : length words ≤ 20480 → found ≡ length (take found firsts)
   class_count few = sym (length-take-le found firsts (omega (arith, put.few, put.firsts_long)))
 
-  pub class_numbers : (C : Contract) → length words ≤ 20480 → Numbers C words (take found firsts)
+  pub class_numbers : (C : Contract) → length words ≤ 20480 → NumbersOf C words (take found firsts)
   class_numbers C few = record { few = omega (arith, class_count few, put.few); inside = class_firsts.below }
 
 -- what is told of a symbol, by its number
-pub tells_number : (C : Contract) (words lefts rights : List ℕ) (told : Closure) {symbol number : ℕ} → symbol ≡ number
-    → TellsPairs C words symbol lefts rights told → TellsPairs C words number lefts rights told
-tells_number C words lefts rights told e here = subst (λ (s : ℕ). TellsPairs C words s lefts rights told) e here
+pub tells_number : (C : Contract) (words lefts rights : List ℕ) (told : Result Unit Open) {symbol number : ℕ} → symbol ≡ number
+    → PairsTold C words symbol lefts rights told → PairsTold C words number lefts rights told
+tells_number C words lefts rights told e here = subst (λ (s : ℕ). PairsTold C words s lefts rights told) e here
 
 module _ (C : Contract) (known : Established C) (left_masks right_masks : List ℕ) (covered : Covered C left_masks right_masks) (words : List ℕ) (s : ℕ)
     (one : 1 ≤ s) (below : s < C.transformation.symbols) where
@@ -90,6 +90,6 @@ module _ (C : Contract) (known : Established C) (left_masks right_masks : List �
       first-open =
           record { left_inside = left-inside; right_inside = right-inside; missing = at.missing; earlier_left = earlier-left; earlier_right = earlier-right }
 
-    pub tells_symbol : (told : Closure) → TellsPairs C words s lefts rights told → TellsSymbol C words s told
-    tells_symbol closure.Closed all = all_held all
-    tells_symbol (closure.Open symbol left right) (same, at) = (same, first-open left.0 right.0 at)
+    pub tells_symbol : (told : Result Unit Open) → PairsTold C words s lefts rights told → SymbolTold C words s told
+    tells_symbol (Ok _) all = all_held all
+    tells_symbol (Err pair) (same, at) = (same, first-open pair.left.0 pair.right.0 at)

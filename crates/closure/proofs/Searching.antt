@@ -16,7 +16,8 @@ use Rattle.kind_slots.specs.Stored.{padded_kind}
 use Rattle.kind_slots.proofs.Same.{same_words_list}
 use Rattle.row_marks.specs.Marks.{shown}
 use Rattle.shown_kinds.specs.Chains.{some_looks_so}
-use Rattle.closure.specs.Held.{Searchable, held_over}
+use Rattle.closure.specs.Search.{Searchable}
+use Rattle.closure.specs.Held.{held_over}
 
 module _ (C : Contract) (known : Established C) (words mask chains : List ℕ) (searchable : Searchable C words mask chains) where
   shown_masked : (k : ℕ) → shown mask (padded_kind words k) ≡ masked C (five_words words k) ++ (0 ∷ [])

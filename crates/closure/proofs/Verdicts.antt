@@ -13,15 +13,9 @@ use Rattle.model.specs.Examining.{most_kinds, sent_count, five_words, closed_ver
 use Rattle.model.proofs.Laws.Established.{Established}
 use Rattle.model.proofs.Laws.Masked.{masked_next}
 use Rattle.model.proofs.Meaning.Examining.{holds_held, closed_for, closed_good}
-use denote.Enum.Declared.{tag_of}
-use Rattle.closure.specs.contracts.Closure.{the_type}
-use Rattle.closure.specs.declared.Closure.{Closure}
-use Rattle.closure.specs.declared.Closure.TheVariants as closure
-use Rattle.closure.specs.Held.{held_over, FirstOpen, TellsSymbol, ToldInside, closure_verdict}
-
--- the number of a case
-abbrev tag : Closure → ℕ
-tag told = tag_of the_type told
+use Rattle.std.specs.Prelude.{Ok, Err}
+use Rattle.closure.specs.declared.Open.{Open}
+use Rattle.closure.specs.Held.{held_over, FirstOpen, SymbolTold, ToldInside, open_verdict}
 
 -- the symbols before s are closed
 abbrev pub ClosedBefore : Contract → List ℕ → ℕ → Type 0
@@ -66,20 +60,17 @@ module _ (C : Contract) (known : Established C) (words : List ℕ) where
       before r k m one' hk hm (inr (e, inr (f, l))) = rw (e, f) (held s i m (at.earlier_right m l))
 
   -- what is told of symbol s is of the list
-  pub told_inside : (s : ℕ) (told : Closure) → TellsSymbol C words s told → ToldInside n told
-  told_inside s closure.Closed here = tt
-  told_inside s (closure.Open symbol left right) (same, at) = (at.left_inside, at.right_inside)
+  pub told_inside : (s : ℕ) (pair : Open) → SymbolTold C words s (Err pair) → ToldInside n (Err pair)
+  told_inside s pair (same, at) = (at.left_inside, at.right_inside)
 
   -- symbol s, as it is told: the next one comes, or the answer is known
-  pub closed_more : (s : ℕ) (told : Closure) → tag told ≡ 0 → ClosedBefore C words s → TellsSymbol C words s told → ClosedBefore C words (s + 1)
-  closed_more s closure.Closed is closed here r i j one less hi hj = go (ℕ_discrete r s)
+  pub closed_more : (s : ℕ) → ClosedBefore C words s → SymbolTold C words s (Ok tt) → ClosedBefore C words (s + 1)
+  closed_more s closed here r i j one less hi hj = go (ℕ_discrete r s)
     where
       go : Dec (r ≡ s) → held_over C words r i j ≡ true
       go (yes e) = rw e (here i j hi hj)
       go (no ne) = closed r i j one (omega arith) hi hj
-  closed_more s (closure.Open symbol left right) is closed here r i j one less hi hj = absurd (omega (arith, is))
 
-  pub open_told : (s : ℕ) (told : Closure) → tag told ≡ 1 → 1 ≤ s → s < C.transformation.symbols → ClosedBefore C words s → TellsSymbol C words s told
-      → closure_verdict told ≡ closed_verdict C words
-  open_told s closure.Closed is one below closed here = absurd (omega (arith, is))
-  open_told s (closure.Open symbol left right) is one below closed (same, at) = rw same (open_at s left.0 right.0 one below closed at)
+  pub open_told : (s : ℕ) (pair : Open) → 1 ≤ s → s < C.transformation.symbols → ClosedBefore C words s → SymbolTold C words s (Err pair)
+      → open_verdict pair ≡ closed_verdict C words
+  open_told s pair one below closed (same, at) = rw same (open_at s pair.left.0 pair.right.0 one below closed at)

@@ -1,35 +1,35 @@
 -- What a list of kinds holds: the kind of a symbol over two of its kinds, and what is told of all of these.
-use Rattle.std.specs.Prelude.{◌≡◌, Bool, true, false, not, List, ℕ, ◌+◌, ◌*◌, ◌<◌, ◌≤◌, length, get_or}
-use Rattle.foundation.specs.Search.{first}
+use Rattle.std.specs.Prelude.{◌≡◌, Bool, true, false, List, ℕ, ◌+◌, ◌*◌, ◌<◌, ◌≤◌, length, get_or, Result, Ok, Err}
 use Rattle.model.specs.Tables.{Contract}
-use Rattle.model.specs.Facts.{fact_total}
 use Rattle.model.specs.Answers.{Verdict, fine, refused}
 use Rattle.model.specs.Kinds.{next_kind}
 use Rattle.model.specs.Examining.{most_kinds, sent_count, five_words, holds}
-use Rattle.kind_masks.specs.Mask.{mask_of}
-use Rattle.shown_kinds.specs.Chains.{Chained}
-use Rattle.closure.specs.declared.Closure.{Closure}
-use Rattle.closure.specs.declared.Closure.TheVariants as closure
+use Rattle.closure.specs.declared.Open.{Open}
 
 module _ (C : Contract) (words : List ℕ) where
-  -- what a search of the list needs: the contract's mask, and the kinds in chains
-  pub record Searchable (mask chains : List ℕ) : Type 0 where
-    pub few : length words ≤ 20480
-    pub is_mask : mask ≡ mask_of C.input.states (fact_total C.output.states C.transformation.counts)
-    pub chained : Chained words mask (sent_count words) chains
-
   -- the list holds the kind of symbol s over kinds i and j
   abbrev pub held_over : (s i j : ℕ) → Bool
   held_over s i j = holds C words (next_kind C s (five_words words i) (five_words words j))
 
-  -- of these right kinds, the place of the first over which it does not, or how many they are
-  abbrev pub first_open : (s i : ℕ) (rights : List ℕ) → ℕ
-  first_open s i rights = first (λ k. not (held_over s i (get_or rights k 0))) (length rights)
-
   -- numbers of kinds in the list, at most as many as it has
-  pub record Numbers (rows : List ℕ) : Type 0 where
+  pub record NumbersOf (rows : List ℕ) : Type 0 where
     pub few : length rows ≤ sent_count words
     pub inside : (k : ℕ) → k < length rows → get_or rows k 0 < sent_count words
+
+  -- a symbol over a left kind and these right kinds: closed, or the first of them whose kind is not held
+  abbrev pub HeldRight : (s i : ℕ) (rights : List ℕ) (n : ℕ) → Type 0
+  HeldRight s i rights n = (m : ℕ) → m < n → held_over s i (get_or rights m 0) ≡ true
+
+  pub record OpenRight (s i : ℕ) (rights : List ℕ) (j : ℕ) : Type 0 where
+    pub place : ℕ
+    pub inside : place < length rights
+    pub is_right : j ≡ get_or rights place 0
+    pub missing : held_over s i j ≡ false
+    pub earlier : HeldRight s i rights place
+
+  abbrev pub LeftTold : (s i : ℕ) (rights : List ℕ) → Result Unit Open → Type 0
+  LeftTold s i rights (Ok _) = HeldRight s i rights (length rights)
+  LeftTold s i rights (Err pair) = (pair.symbol.0 ≡ s) × (pair.left.0 ≡ i) × OpenRight s i rights pair.right.0
 
   -- a symbol over these kinds: closed, or the first of them whose kind is not held
   abbrev pub AllHeld : (s : ℕ) (lefts rights : List ℕ) → Type 0
@@ -46,9 +46,9 @@ module _ (C : Contract) (words : List ℕ) where
     pub earlier_left : (k m : ℕ) → k < left_place → m < length rights → held_over s (get_or lefts k 0) (get_or rights m 0) ≡ true
     pub earlier_right : (m : ℕ) → m < right_place → held_over s i (get_or rights m 0) ≡ true
 
-  abbrev pub TellsPairs : (s : ℕ) (lefts rights : List ℕ) → Closure → Type 0
-  TellsPairs s lefts rights closure.Closed = AllHeld s lefts rights
-  TellsPairs s lefts rights (closure.Open symbol left right) = (symbol.0 ≡ s) × OpenAt s lefts rights left.0 right.0
+  abbrev pub PairsTold : (s : ℕ) (lefts rights : List ℕ) → Result Unit Open → Type 0
+  PairsTold s lefts rights (Ok _) = AllHeld s lefts rights
+  PairsTold s lefts rights (Err pair) = (pair.symbol.0 ≡ s) × OpenAt s lefts rights pair.left.0 pair.right.0
 
   -- a symbol over all kinds of the list: closed, or the first two whose kind is not held
   pub record FirstOpen (s i j : ℕ) : Type 0 where
@@ -58,16 +58,19 @@ module _ (C : Contract) (words : List ℕ) where
     pub earlier_left : (k m : ℕ) → k < i → m < sent_count words → held_over s k m ≡ true
     pub earlier_right : (m : ℕ) → m < j → held_over s i m ≡ true
 
-  abbrev pub TellsSymbol : (s : ℕ) → Closure → Type 0
-  TellsSymbol s closure.Closed = (i j : ℕ) → i < sent_count words → j < sent_count words → held_over s i j ≡ true
-  TellsSymbol s (closure.Open symbol left right) = (symbol.0 ≡ s) × FirstOpen s left.0 right.0
+  abbrev pub SymbolTold : (s : ℕ) → Result Unit Open → Type 0
+  SymbolTold s (Ok _) = (i j : ℕ) → i < sent_count words → j < sent_count words → held_over s i j ≡ true
+  SymbolTold s (Err pair) = (pair.symbol.0 ≡ s) × FirstOpen s pair.left.0 pair.right.0
 
 -- the two kinds that are told are of the list
-abbrev pub ToldInside : (count : ℕ) → Closure → Type 0
-ToldInside count closure.Closed = Unit {0}
-ToldInside count (closure.Open symbol left right) = (left.0 < count) × (right.0 < count)
+abbrev pub ToldInside : (count : ℕ) → Result Unit Open → Type 0
+ToldInside count (Ok _) = Unit {0}
+ToldInside count (Err pair) = (pair.left.0 < count) × (pair.right.0 < count)
 
 -- "72 not closed (place (symbol × 4,096 + left) × 4,096 + right of the first in listing order)"
-abbrev pub closure_verdict : Closure → Verdict
-closure_verdict closure.Closed = fine
-closure_verdict (closure.Open symbol left right) = refused 72 ((symbol.0 * most_kinds + left.0) * most_kinds + right.0)
+abbrev pub open_verdict : Open → Verdict
+open_verdict pair = refused 72 ((pair.symbol.0 * most_kinds + pair.left.0) * most_kinds + pair.right.0)
+
+abbrev pub closure_verdict : Result Unit Open → Verdict
+closure_verdict (Ok _) = fine
+closure_verdict (Err pair) = open_verdict pair

@@ -1,3 +1,2 @@
--- The definition's verdict, refusal by refusal; and what an answer that is no refusal comes to.
+-- The definition's verdict, refusal by refusal.
 pub mod Steps
-pub mod Answers

@@ -1,17 +1,13 @@
 -- Each refusal, and acceptance, as the definition gives them.
-use mathlib.Core.Path.{◌≡◌, ap, ap₂, sym, ◌∙◌}
+use mathlib.Core.Path.{◌≡◌, ap, sym, ◌∙◌}
 use mathlib.Core.Bool.{Bool, true, false, not, ◌||◌}
 use mathlib.Core.List.{List, [], ◌∷◌, ◌++◌}
-use Prim.Native.Nat.{ℕ, ◌+◌, ◌*◌, ◌%◌, ◌<◌, ◌≤◌}
-use native.Mathlib.Omega.{arith}
-use native.Mathlib.Decide.{ℕ_discrete}
-use borrow.Author.Tests.{lt-ltb, le-ltb, ltb-false, not-false}
+use Prim.Native.Nat.{ℕ, ◌*◌, ◌%◌}
+use Rattle.std.specs.Prelude.{Some, None}
 use lib.Dec.{eqb, ltb}
 use lib.ListN.{length}
-use Rattle.foundation.specs.Search.{first, first_at, first_none, first_cong}
-use Rattle.foundation.specs.TestLaws.{or_second}
+use Rattle.foundation.specs.Search.{first, first_below, first_cong}
 use Rattle.model.specs.Tables.{Contract}
-use Rattle.model.specs.Facts.{fact_total}
 use Rattle.model.specs.Answers.{Verdict, fine, refused, ◌then◌, refuse_if, refuse_first}
 use Rattle.model.specs.Admission.{admission, admit}
 use Rattle.model.specs.Kinds.{empty_kind, breaks}
@@ -22,15 +18,11 @@ use Rattle.model.proofs.Rounds.Buffers.{length_empty_kind}
 use Rattle.answers.specs.Numbers.{contract_refusal}
 use Rattle.answers.specs.declared.ContractFault.{ContractFault}
 use Rattle.answers.proofs.Answered.{refused_as}
-use Rattle.classes.specs.Masks.{Covered}
-use Rattle.prepared.specs.Parts.{contract_in, Ready}
-use Rattle.prepared.specs.declared.Prepared.{Prepared}
-use Rattle.preparing.specs.Packing.{Prepares, covered}
+use Rattle.admission_tables.proofs.Found.{found_refused, none_fine}
 use Rattle.breaking.specs.declared.Verdicts.{Verdicts}
 use Rattle.breaking.specs.Verdicts.{VerdictsOf, breaking_is}
-use Rattle.kind_masks.specs.Mask.{mask_of}
 use Rattle.shown_kinds.specs.Chains.{some_looks_so}
-use Rattle.closure.specs.Held.{Searchable}
+use Rattle.closure.specs.Search.{Searchable}
 use Rattle.closure.proofs.Searching.{search_holds}
 use Rattle.examining.specs.Answers.{verdict_in, list_verdict, breaking_at}
 
@@ -44,28 +36,10 @@ module _ (C : Contract) (words : List ℕ) where
   unfolding examining length_verdict ◌then◌ refuse_if
   refused_length e wrong = rw (e, wrong)
 
-  -- a good length
-  short : (not (eqb (length words % 5) 0) || ltb (5 * most_kinds) (length words)) ≡ false → length words ≤ 20480
-  short good = ltb-false _ _ (or_second (not (eqb (length words % 5) 0)) _ good)
-
   pub examined_list : admission C ≡ fine → (not (eqb (length words % 5) 0) || ltb (5 * most_kinds) (length words)) ≡ false
       → {verdict : Verdict} (D : Contract) → D ≡ C → verdict ≡ list_verdict D words → verdict ≡ examining C words
   unfolding examining length_verdict ◌then◌ refuse_if
   examined_list e good D same told = rw (e, good) (rw same at told)
-
-  -- what is asked of a prepared contract and a list of a good length
-  pub made_ready : {p : Prepared} {table left_masks right_masks : List ℕ} {facts : ℕ} → Prepares C p table left_masks right_masks
-      → facts ≡ fact_total C.output.states C.transformation.counts
-      → (not (eqb (length words % 5) 0) || ltb (5 * most_kinds) (length words)) ≡ false
-      → Ready p table × Covered (contract_in p table) left_masks right_masks
-      × (facts ≡ fact_total (contract_in p table).output.states (contract_in p table).transformation.counts)
-      × (length words ≤ 20480)
-  made_ready made facts good = (
-    made.ready,
-    covered made,
-    facts ∙ ap (λ (D : Contract). fact_total D.output.states D.transformation.counts) (sym made.contract),
-    short good,
-  )
 
   -- the four verdicts on a list
   pub refused_empty : holds C words (empty_kind C) ≡ false → refused 71 0 ≡ list_verdict C words
@@ -92,44 +66,16 @@ module _ (C : Contract) (words : List ℕ) where
         first_cong (breaking_at v words) (λ k. breaks C (sent_kind C words k)) (sent_count words)
         (λ k h. breaking_is C known v of _ ∙ sym (breaks_masked C known (five_words words k)))
 
-    module _ (kind : ℕ) (found : kind ≡ first (breaking_at v words) (sent_count words)) (held : holds C words (empty_kind C) ≡ true)
-        (closed : fine ≡ closed_verdict C words) where
-      pub refused_breaking : (number : ℕ) → number ≡ kind → kind < sent_count words → refused 73 number ≡ list_verdict C words
-      unfolding breaking_verdict refuse_first refuse_if
-      refused_breaking number same h =
-          sym
-          (closed_passed held closed
-          ∙ rw (← breaking_same, ← found, lt-ltb kind (sent_count words) h, same))
+    search_verdict : refuse_first 73 (breaking_at v words) (sent_count words) ≡ breaking_verdict C words
+    unfolding breaking_verdict refuse_first
+    search_verdict = rw breaking_same
 
-      pub accepted_list : sent_count words ≤ kind → fine ≡ list_verdict C words
-      unfolding breaking_verdict refuse_first refuse_if
-      accepted_list h = sym (closed_passed held closed ∙ rw (← breaking_same, ← found, le-ltb kind (sent_count words) h))
+    module _ (held : holds C words (empty_kind C) ≡ true) (closed : fine ≡ closed_verdict C words) where
+      pub refused_breaking : (kind : ℕ) → Some kind ≡ first_below (breaking_at v words) (sent_count words) → refused 73 kind ≡ list_verdict C words
+      refused_breaking kind found = sym (closed_passed held closed ∙ sym search_verdict ∙ found_refused (breaking_at v words) (sent_count words) 73 kind found)
 
--- the search for a breaking kind, kind by kind
-module _ (v : Verdicts) (words : List ℕ) where
-  abbrev pub NoneBreaks : ℕ → Type 0
-  NoneBreaks k = (j : ℕ) → j < k → breaking_at v words j ≡ false
-
-  pub none_more : (k : ℕ) → breaking_at v words k ≡ false → NoneBreaks k → NoneBreaks (k + 1)
-  none_more k here none j h = go (ℕ_discrete j k)
-    where
-      go : Dec (j ≡ k) → breaking_at v words j ≡ false
-      go (yes e) = ap (breaking_at v words) e ∙ here
-      go (no ne) = none j (omega arith)
-
-  pub breaks_at : (k n : ℕ) → k < n → breaking_at v words k ≡ true → NoneBreaks k → k ≡ first (breaking_at v words) n
-  breaks_at k n h here none = sym (first_at (breaking_at v words) n k h none here)
-
-  pub none_breaks : (k n : ℕ) → n ≤ k → k ≤ n → NoneBreaks k → k ≡ first (breaking_at v words) n
-  none_breaks k n a b none = let all : k ≡ n = omega arith in all ∙ sym (first_none (breaking_at v words) n (λ j h. none j (omega arith)))
-
--- what the test of a search tells
-pub told_missing : (found held : Bool) → found ≡ held → not found ≡ true → held ≡ false
-told_missing false held same missing = sym same
-told_missing true held same missing = sym same ∙ sym missing
-
-pub told_held : (found held : Bool) → found ≡ held → not found ≡ false → held ≡ true
-told_held found held same there = sym same ∙ not-false found there
+      pub accepted_list : None ≡ first_below (breaking_at v words) (sent_count words) → fine ≡ list_verdict C words
+      accepted_list found = sym (closed_passed held closed ∙ sym search_verdict ∙ none_fine (breaking_at v words) (sent_count words) 73 found)
 
 -- the search of the list for the empty forest's kind
 pub search_empty : (C : Contract) → Established C → (words mask chains kind : List ℕ) {found : Bool} → Searchable C words mask chains
@@ -138,7 +84,3 @@ pub search_empty : (C : Contract) → Established C → (words mask chains kind 
     → found ≡ holds C words (empty_kind C)
 search_empty C known words mask chains kind searchable is told =
     told ∙ ap (some_looks_so words mask (sent_count words)) is ∙ search_holds C known words mask chains searchable (empty_kind C) (length_empty_kind C)
-
--- the mask of these numbers of states and facts
-pub mask-of : (states facts : ℕ) {mask : List ℕ} {S F : ℕ} → mask ≡ mask_of states facts → states ≡ S → facts ≡ F → mask ≡ mask_of S F
-mask-of states facts is s f = is ∙ ap₂ mask_of s f

@@ -1,14 +1,15 @@
 -- "For an answer that is an enum, a definition gives this paper's number and values for each case."
-use Rattle.std.specs.Prelude.{Bool, List, ℕ, ◌+◌, ◌*◌, ◌<◌}
+use Rattle.std.specs.Prelude.{Bool, List, ℕ, ◌<◌, Result, Ok, Err}
 use Rattle.model.specs.Tables.{Contract}
 use Rattle.model.specs.Answers.{Verdict, fine, refused, ◌then◌, Answer, admitted, judged, tree, pass, ran, written, refusal, stopped}
-use Rattle.model.specs.Examining.{most_kinds, sent_count, empty_verdict, closed_verdict, breaking_verdict}
+use Rattle.model.specs.Examining.{sent_count, empty_verdict, closed_verdict, breaking_verdict}
 use Rattle.answers.specs.Numbers.{contract_refusal}
 use Rattle.kind_slots.specs.Stored.{padded_kind}
 use Rattle.breaking.specs.Verdicts.{breaking}
 use Rattle.breaking.specs.declared.Verdicts.{Verdicts}
-use Rattle.examining.specs.declared.ExaminingAnswer.{ExaminingAnswer}
-use Rattle.examining.specs.declared.ExaminingAnswer.TheVariants as answer
+use Rattle.closure.specs.Held.{open_verdict}
+use Rattle.examining.specs.declared.ExaminingRefusal.{ExaminingRefusal}
+use Rattle.examining.specs.declared.ExaminingRefusal.TheVariants as why
 
 -- the verdict of a contract's fault, by the answer of admission that it is; no other answer is asked for its verdict
 abbrev pub verdict_in : Answer → Verdict
@@ -23,22 +24,28 @@ verdict_in (stopped limit height) = fine
 
 -- "1 to 8, 70 a length .. (the length), 71 the empty kind is missing (place 0), 72 not closed (place (symbol × 4,096 + left) × 4,096 + right ..),
 -- 73 a breaking kind (its number)"
-abbrev pub examining_verdict : ExaminingAnswer → Verdict
-examining_verdict answer.Accepted = fine
-examining_verdict (answer.Contract fault) = verdict_in (contract_refusal fault)
-examining_verdict (answer.Length length) = refused 70 length
-examining_verdict answer.NoEmpty = refused 71 0
-examining_verdict (answer.Open symbol left right) = refused 72 ((symbol.0 * most_kinds + left.0) * most_kinds + right.0)
-examining_verdict (answer.Breaking kind) = refused 73 kind.0
+abbrev pub refusal_verdict : ExaminingRefusal → Verdict
+refusal_verdict (why.Contract fault) = verdict_in (contract_refusal fault)
+refusal_verdict (why.Length length) = refused 70 length
+refusal_verdict why.NoEmpty = refused 71 0
+refusal_verdict (why.Open pair) = open_verdict pair
+refusal_verdict (why.Breaking kind) = refused 73 kind.0
 
--- the kinds that an answer names are of the list; so the place of 72 tells which they are
-abbrev pub NamesListed : (words : List ℕ) → ExaminingAnswer → Type 0
-NamesListed words answer.Accepted = Unit {0}
-NamesListed words (answer.Contract fault) = Unit {0}
-NamesListed words (answer.Length length) = Unit {0}
-NamesListed words answer.NoEmpty = Unit {0}
-NamesListed words (answer.Open symbol left right) = (left.0 < sent_count words) × (right.0 < sent_count words)
-NamesListed words (answer.Breaking kind) = kind.0 < sent_count words
+abbrev pub examining_verdict : Result Unit ExaminingRefusal → Verdict
+examining_verdict (Ok _) = fine
+examining_verdict (Err why) = refusal_verdict why
+
+-- the kinds that a refusal names are of the list; so the place of 72 tells which they are
+abbrev pub RefusalListed : (words : List ℕ) → ExaminingRefusal → Type 0
+RefusalListed words (why.Contract fault) = Unit {0}
+RefusalListed words (why.Length length) = Unit {0}
+RefusalListed words why.NoEmpty = Unit {0}
+RefusalListed words (why.Open pair) = (pair.left.0 < sent_count words) × (pair.right.0 < sent_count words)
+RefusalListed words (why.Breaking kind) = kind.0 < sent_count words
+
+abbrev pub NamesListed : (words : List ℕ) → Result Unit ExaminingRefusal → Type 0
+NamesListed words (Ok _) = Unit {0}
+NamesListed words (Err why) = RefusalListed words why
 
 -- the verdict on a list of a good length, for an admitted contract
 abbrev pub list_verdict : Contract → List ℕ → Verdict

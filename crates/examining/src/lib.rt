@@ -7,189 +7,125 @@
 
 pub mod refusals;
 
-ghost use Rattle.std.specs.Prelude.{◌≡◌, not, ◌||◌, ◌%◌, ◌*◌, ◌/◌, ◌≤◌, eqb, ltb, length};
-ghost use Rattle.foundation.specs.Search.{first};
-ghost use Rattle.model.specs.Tables.{contract};
-ghost use Rattle.model.specs.Facts.{fact_total};
-ghost use Rattle.model.specs.Examining.{sent_count, most_kinds, examining};
-ghost use Rattle.classes.specs.Masks.{Covered};
-ghost use Rattle.prepared.specs.Parts.{contract_in, Ready};
-ghost use Rattle.closure.specs.Held.{Searchable};
+ghost use Rattle.std.specs.Prelude.{◌≡◌, ◌+◌, ◌*◌, ◌≤◌, length};
+ghost use Rattle.foundation.specs.Search.{first_below};
+ghost use Rattle.model.specs.Examining.{sent_count, examining};
+ghost use Rattle.tables.specs.Handed.{handed};
+ghost use Rattle.prepared.specs.Contract.{contract_of};
+ghost use Rattle.closure.specs.Sent.{contract_for};
 ghost use Rattle.examining.specs.Answers.{examining_verdict, NamesListed, list_verdict, breaking_at};
+ghost use Rattle.examining.specs.declared.ExaminingRefusal.TheVariants as refusal;
 
 use admission::admit;
-use answers::{AdmissionAnswer, ContractFault};
+use answers::ContractFault;
 use breaking::{Verdicts, breaks};
-use closure::{Closure, KindNumber, closure_of};
+use closure::sent::SentKinds;
+use closure::{KindNumber, Open, closure_of};
 use kind_masks::kind_mask;
 use kind_slots::stored::kind_at;
 use kinds::empty_of;
-use lanes::entry_of;
+use masks::{Masked, with_masks};
 use numbering::fact_total;
-use prepared::Prepared;
 use preparing::{most_table, prepare};
-use shown_kinds::{CHAINS, chain_rows, is_shown, room_for_chains, room_for_rows};
-use tables::Symbol;
+use searching::first_where;
+use shown_kinds::{chain_rows, is_shown, room_for_chains, room_for_rows};
+use tables::{ContractTables, tuples_wrong};
 
-// What the examiner says.
-#[derive(Clone, Copy)]
-pub enum ExaminingAnswer {
-    Accepted,
+// The most kinds that a list may have.
+const MOST_KINDS: usize = 4096;
+
+// Why the examiner does not accept a list.
+#[derive(Clone, Copy, Debug, PartialEq, Eq)]
+pub enum ExaminingRefusal {
     Contract(ContractFault),
     // The list is no whole number of kinds, or has too many: its length in words.
     Length(usize),
     // The empty forest's kind is missing.
     NoEmpty,
     // The kind of this symbol over these two kinds is missing.
-    Open(Symbol, KindNumber, KindNumber),
+    Open(Open),
     // This kind breaks the contract.
     Breaking(KindNumber),
 }
 
-// Whether a list cannot have so many words.
-fn length_wrong(length: usize) -> bool
-    ensures { result ≡ (not (eqb (length % 5) 0) || ltb (5 * most_kinds) length) }
-{
-    (length % 5 != 0) | (20480 < length)
+impl From<ContractFault> for ExaminingRefusal {
+    ghost from_gives = { λ fault why. why ≡ refusal.Contract fault };
+
+    fn from(fault: ContractFault) -> ExaminingRefusal {
+        ExaminingRefusal::Contract(fault)
+    }
 }
 
-// The first listed kind that breaks the contract, or how many there are.
-fn first_breaking(verdicts: Verdicts, words: &[u64]) -> usize
-    requires { length words.now ≤ 20480 }
-    ensures { result ≡ first (breaking_at verdicts words.now) (sent_count words.now) }
-{
-    let count = words.len() / 5;
-    let mut k: usize = 0;
-    while k < count {
-        let kind = kind_at(words, k);
-        if breaks(verdicts, &kind) {
-            return k;
-        }
-        k += 1;
+impl From<Open> for ExaminingRefusal {
+    ghost from_gives = { λ pair why. why ≡ refusal.Open pair };
+
+    fn from(pair: Open) -> ExaminingRefusal {
+        ExaminingRefusal::Open(pair)
     }
-    k
+}
+
+// Whether kind k of the list breaks the contract.
+fn breaks_at(verdicts: Verdicts, words: &[u64], k: usize) -> bool
+    requires { 5 * k + 5 ≤ length words.now }
+    ensures { result ≡ breaking_at verdicts words.now k }
+{
+    breaks(verdicts, &kind_at(words, k))
+}
+
+// The first listed kind that breaks the contract.
+fn first_breaking(verdicts: Verdicts, words: &[u64]) -> Option<usize>
+    ensures { result ≡ first_below (breaking_at verdicts words.now) (sent_count words.now) }
+{
+    first_where(words.len() / 5, |k| breaks_at(verdicts, words, k))
 }
 
 // Examines a list whose kinds are in chains by the contract's mask.
-fn examine_list(
-    prepared: Prepared,
-    table: &[u16],
-    left_masks: &[u64; 80],
-    right_masks: &[u64; 80],
-    words: &[u64],
-    mask: &[u64; 6],
-    chains: &[u16; CHAINS],
-    room: &mut [u64; 256],
-) -> ExaminingAnswer
-    requires { Ready prepared table.now × Searchable (contract_in prepared table.now) words.now mask.now chains.now × Covered (contract_in prepared table.now) left_masks.now right_masks.now }
-    ensures { (examining_verdict result ≡ list_verdict (contract_in prepared table.now) words.now) × NamesListed words.now result }
+fn examine_list(sent: &SentKinds) -> Result<(), ExaminingRefusal>
+    ensures { (examining_verdict result ≡ list_verdict (contract_for sent.now) sent.now.words.now) × NamesListed sent.now.words.now result }
 {
-    let empty = empty_of(prepared, table, room);
-    if !is_shown(words, mask, chains, &empty) {
-        return ExaminingAnswer::NoEmpty;
+    let mut room = [0u64; 256];
+    let prepared = &sent.masked.prepared;
+    let empty = empty_of(prepared, &mut room);
+    if !is_shown(sent.words, sent.mask, sent.chains, &empty) {
+        return Err(ExaminingRefusal::NoEmpty);
     }
-    let closure = closure_of(
-        prepared,
-        table,
-        left_masks,
-        right_masks,
-        words,
-        mask,
-        chains,
-        room,
-    );
-    if let Closure::Open(symbol, left, right) = closure {
-        return ExaminingAnswer::Open(symbol, left, right);
+    closure_of(sent, &mut room)?;
+    match first_breaking(prepared.parts.verdicts, sent.words) {
+        Some(kind) => Err(ExaminingRefusal::Breaking(KindNumber(kind as u16))),
+        None => Ok(()),
     }
-    let kind = first_breaking(prepared.verdicts, words);
-    if kind < words.len() / 5 {
-        return ExaminingAnswer::Breaking(KindNumber(entry_of(kind)));
-    }
-    ExaminingAnswer::Accepted
 }
 
-// Examines a list by a prepared contract with so many facts.
-fn examine_prepared(
-    prepared: Prepared,
-    table: &[u16],
-    left_masks: &[u64; 80],
-    right_masks: &[u64; 80],
-    facts: usize,
-    words: &[u64],
-) -> ExaminingAnswer
-    requires { Ready prepared table.now × Covered (contract_in prepared table.now) left_masks.now right_masks.now × (facts ≡ fact_total (contract_in prepared table.now).output.states (contract_in prepared table.now).transformation.counts) × (length words.now ≤ 20480) }
-    ensures { (examining_verdict result ≡ list_verdict (contract_in prepared table.now) words.now) × NamesListed words.now result }
+// Examines a list by a prepared contract.
+fn examine_prepared(masked: &Masked, words: &[u64]) -> Result<(), ExaminingRefusal>
+    requires { length words.now ≤ 20480 }
+    ensures { (examining_verdict result ≡ list_verdict (contract_of masked.now.prepared) words.now) × NamesListed words.now result }
 {
-    let mask = kind_mask(prepared.states, facts);
+    let prepared = &masked.prepared;
+    let facts = fact_total(prepared.parts.layout.states, prepared.counts());
+    let mask = kind_mask(prepared.parts.states, facts);
     let mut chains = room_for_chains();
     let mut firsts = room_for_rows();
     chain_rows(words, &mask, &mut chains, &mut firsts);
-    let mut room = [0u64; 256];
-    examine_list(
-        prepared,
-        table,
-        left_masks,
-        right_masks,
+    let sent = SentKinds {
+        masked,
         words,
-        &mask,
-        &chains,
-        &mut room,
-    )
+        mask: &mask,
+        chains: &chains,
+    };
+    examine_list(&sent)
 }
 
 // Examines a list of kinds for a contract: accepted, or why not. Nothing is written.
-pub fn examine(
-    symbols: usize,
-    input_states: usize,
-    output_states: usize,
-    counts: &[u16],
-    input_rows: &[u16],
-    input_marks: &[u16],
-    output_table: &[u16],
-    output_marks: &[u16],
-    nodes: &[u16],
-    rules: &[u16],
-    words: &[u64],
-) -> ExaminingAnswer
-    ensures { (examining_verdict result ≡ examining (contract symbols input_states output_states counts.now input_rows.now input_marks.now output_table.now output_marks.now nodes.now rules.now) words.now) × NamesListed words.now result }
+pub fn examine(contract: &ContractTables, words: &[u64]) -> Result<(), ExaminingRefusal>
+    ensures { (examining_verdict result ≡ examining (handed contract.now) words.now) × NamesListed words.now result }
 {
-    let admission = admit(
-        symbols,
-        input_states,
-        output_states,
-        counts,
-        input_rows,
-        input_marks,
-        output_table,
-        output_marks,
-        nodes,
-        rules,
-    );
-    if let AdmissionAnswer::Refused(fault) = admission {
-        return ExaminingAnswer::Contract(fault);
-    }
+    admit(contract)?;
     let length = words.len();
-    if length_wrong(length) {
-        return ExaminingAnswer::Length(length);
+    if tuples_wrong(5, MOST_KINDS, length) {
+        return Err(ExaminingRefusal::Length(length));
     }
-    let mut left_masks = [0u64; 80];
-    let mut right_masks = [0u64; 80];
     let mut table = most_table();
-    let prepared = prepare(
-        symbols,
-        input_states,
-        output_states,
-        counts,
-        input_rows,
-        input_marks,
-        output_table,
-        output_marks,
-        nodes,
-        rules,
-        &mut table,
-        &mut left_masks,
-        &mut right_masks,
-    );
-    let facts = fact_total(output_states, counts);
-    examine_prepared(prepared, &table, &left_masks, &right_masks, facts, words)
+    let masked = with_masks(prepare(contract, &mut table));
+    examine_prepared(&masked, words)
 }

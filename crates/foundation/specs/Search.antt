@@ -1,7 +1,8 @@
 -- The first number below n that passes a test: one search for every table; and the greatest.
-use Rattle.std.specs.Prelude.{◌≡◌, refl, Bool, true, false, ℕ, zero, suc, ◌<◌, ◌≤◌}
+use Rattle.std.specs.Prelude.{◌≡◌, refl, Bool, true, false, ℕ, zero, suc, ◌<◌, ◌≤◌, cond, ltb, Option, Some, None}
 use Rattle.std.proofs.Common.{ap, sym, ◌∙◌, not-suc-le-zero, le_of_suc-le-suc, arith}
 use Rattle.std.proofs.Math.Decide.{ℕ_discrete}
+use Rattle.std.proofs.lemmas.Bool.{lt-ltb, le-ltb}
 use Rattle.foundation.specs.Tests.{choose}
 
 -- the least k below n at which p holds, or n where there is none
@@ -68,6 +69,18 @@ pub first_cong : (p q : ℕ → Bool) (n : ℕ) → ((j : ℕ) → j < n → p j
 unfolding first
 first_cong p q zero h = refl
 first_cong p q (suc n) h = rw (h 0 (omega arith), first_cong (λ k. p (suc k)) (λ k. q (suc k)) n (λ j l. h (suc j) (omega arith)))
+
+-- the least k below n at which p holds, if there is one
+abbrev pub first_below : (ℕ → Bool) → ℕ → Option ℕ
+first_below p n = cond (ltb (first p n) n) (Some (first p n)) None
+
+-- a number that passes, with none below it that does, is the one
+pub below_at : (p : ℕ → Bool) (n k : ℕ) → k < n → ((j : ℕ) → j < k → p j ≡ false) → p k ≡ true → first_below p n ≡ Some k
+below_at p n k h none hit = rw (first_at p n k h none hit) (rw (lt-ltb k n h) refl)
+
+-- where none passes, there is none
+pub below_none : (p : ℕ → Bool) (n : ℕ) → ((j : ℕ) → j < n → p j ≡ false) → first_below p n ≡ None
+below_none p n none = rw (first_none p n none) (rw (le-ltb n n (omega arith)) refl)
 
 -- the greatest k below n at which p holds, or 0 where there is none
 unfoldable pub greatest : (ℕ → Bool) → ℕ → ℕ

@@ -6,82 +6,39 @@
 
 ghost use Rattle.std.specs.Prelude.{◌≡◌, ◌≤◌, length, IfOk};
 ghost use Rattle.script.specs.Meaning.{most_bytes};
+ghost use Rattle.printing.specs.Appending.{Appended};
+ghost use Rattle.lines.specs.Help.{help};
 ghost use Rattle.playing.specs.Desks.{LabelFits, InOrder};
 ghost use Rattle.playing.specs.Printed.{PrintedFits};
 
 use lines::help::append_help;
-use playing::desks::{Desk, Label, empty_desk};
+use playing::desks::{Desk, empty_desk};
 use playing::help::asks_help;
 use playing::showing::Printed;
 use playing::turns::{Turn, play_turn};
+use printing::pages::Page;
+use script::spans::Span;
 use std::io;
 use std::io::Read;
 
-// A byte more than is read of a script tells whether it goes on.
-fn text_buffer() -> [u8; 1572865] {
-    [0u8; 1572865]
-}
-
-// The row table that a check or a run leaves, and the numbers of a script's tables.
-fn number_buffer() -> [u16; 798720] {
-    [0u16; 798720]
-}
-
-fn row_buffer() -> [u16; 12288] {
-    [0u16; 12288]
-}
-
-fn word_buffer() -> [u64; 2560] {
-    [0u64; 2560]
-}
-
-fn tree_buffer() -> [u16; 65535] {
-    [0u16; 65535]
-}
-
-fn output_buffer() -> [u8; 1441792] {
-    [0u8; 1441792]
-}
-
-fn help_buffer() -> [u8; 4096] {
-    [0u8; 4096]
-}
-
-// A turn, in buffers of these sizes.
-fn next_turn(
-    text: &[u8],
-    cut: bool,
-    at: usize,
-    label: Label,
-    desk: Desk,
-    numbers: &mut [u16; 798720],
-    rows: &mut [u16; 12288],
-    words: &mut [u64; 2560],
-    tree: &mut [u16; 65535],
-    out: &mut [u8; 1441792],
-) -> Turn
-    requires { InOrder desk × LabelFits label (length text.now) }
-    ensures { InOrder result.done.desk × LabelFits result.done.label (length text.now) × PrintedFits result.done.printed (length out.new) }
-{
-    play_turn(text, cut, at, label, desk, numbers, rows, words, tree, out)
-}
-
 // Writes the label of a line.
-fn print_label(rt: &impl Print, text: &[u8], label: Label) -> io::Result<()>
+fn print_label(rt: &impl Print, text: &[u8], label: Option<Span>) -> io::Result<()>
     requires { LabelFits label (length text.now) }
 {
     match label {
-        Label::Dash => rt.write_all(b"-"),
-        Label::Token(name) => {
-            let start = name.start;
-            let end = name.end;
-            rt.write_all(&text[start..end])
-        }
+        None => rt.write_all(b"-"),
+        Some(name) => rt.write_all(&text[name.start..name.end]),
     }
 }
 
 // Writes what a turn printed.
-fn print(rt: &impl Print, text: &[u8], label: Label, printed: Printed, out: &[u8]) -> io::Result<()>
+fn print(
+    rt: &impl Print,
+    text: &[u8],
+    label: Option<Span>,
+    printed: Printed,
+    out: &[u8],
+) -> io::Result<()>
     requires { LabelFits label (length text.now) × PrintedFits printed (length out.now) }
 {
     match printed {
@@ -100,11 +57,57 @@ fn print(rt: &impl Print, text: &[u8], label: Label, printed: Printed, out: &[u8
     }
 }
 
-// The same from a buffer of this size.
+// The buffers of a script, each made in a function of its own, so that proofs see its length alone: the row table that a check or a run leaves
+// and the numbers of a script's tables; what is lent to the operations; what is printed.
+fn number_buffer() -> [u16; 798720] {
+    [0; 798720]
+}
+
+fn row_buffer() -> [u16; 12288] {
+    [0; 12288]
+}
+
+fn word_buffer() -> [u64; 2560] {
+    [0; 2560]
+}
+
+fn tree_buffer() -> [u16; 65535] {
+    [0; 65535]
+}
+
+fn output_buffer() -> [u8; 1441792] {
+    [0; 1441792]
+}
+
+// A byte more than is read of a script tells whether it goes on.
+fn text_buffer() -> [u8; 1572865] {
+    [0; 1572865]
+}
+
+// A turn, in buffers of these sizes.
+fn next_turn(
+    text: &[u8],
+    cut: bool,
+    at: usize,
+    label: Option<Span>,
+    desk: Desk,
+    numbers: &mut [u16; 798720],
+    rows: &mut [u16; 12288],
+    words: &mut [u64; 2560],
+    tree: &mut [u16; 65535],
+    out: &mut [u8; 1441792],
+) -> Turn
+    requires { InOrder desk × LabelFits label (length text.now) }
+    ensures { InOrder result.done.desk × LabelFits result.done.label (length text.now) × PrintedFits result.done.printed (length out.new) }
+{
+    play_turn(text, cut, at, label, desk, numbers, rows, words, tree, out)
+}
+
+// What a turn printed, from a buffer of this size.
 fn print_turn(
     rt: &impl Print,
     text: &[u8],
-    label: Label,
+    label: Option<Span>,
     printed: Printed,
     out: &[u8; 1441792],
 ) -> io::Result<()>
@@ -120,11 +123,10 @@ fn play(rt: &impl Print, text: &[u8], cut: bool) -> io::Result<()> {
     let mut words = word_buffer();
     let mut tree = tree_buffer();
     let mut out = output_buffer();
-    let mut label = Label::Dash;
+    let mut label = None;
     let mut desk = empty_desk();
     let mut at = 0;
-    let mut left = text.len();
-    loop {
+    for _ in 0..=text.len() {
         let turn = next_turn(
             text,
             cut,
@@ -137,26 +139,35 @@ fn play(rt: &impl Print, text: &[u8], cut: bool) -> io::Result<()> {
             &mut tree,
             &mut out,
         );
-        let done = turn.done;
-        label = done.label;
-        desk = done.desk;
-        let printed = done.printed;
-        print_turn(rt, text, label, printed, &out)?;
-        if !turn.goes_on {
-            return Ok(());
+        label = turn.done.label;
+        desk = turn.done.desk;
+        print_turn(rt, text, label, turn.done.printed, &out)?;
+        match turn.next {
+            Some(next) => at = next,
+            None => return Ok(()),
         }
-        if left == 0 {
-            return Ok(());
-        }
-        at = turn.next;
-        left -= 1;
     }
+    Ok(())
+}
+
+// Room for the help text.
+fn help_buffer() -> [u8; 4096] {
+    [0; 4096]
+}
+
+// Puts the help text at the start of a buffer, and returns where it ends.
+fn help_page(out: &mut [u8]) -> usize
+    ensures { Appended out.old 0 help result out.new }
+{
+    let mut page = Page::new(out);
+    append_help(&mut page);
+    page.at
 }
 
 // Prints the statements, a line each.
 fn print_help(rt: &impl Print) -> io::Result<()> {
     let mut out = help_buffer();
-    let end = append_help(&mut out, 0);
+    let end = help_page(&mut out);
     if end <= 4096 {
         rt.write_all(&out[..end])?;
     }
@@ -179,7 +190,8 @@ fn most_bytes() -> usize
     1572864
 }
 
-// Fills a buffer as far as there is something to read, and says how many bytes were read.
+// Fills a buffer as far as there is something to read, and says how many bytes were read. How many come at a time is not known before, so
+// this is a `while` loop.
 fn read_full(reader: &mut impl Read, buffer: &mut [u8]) -> io::Result<usize>
     ensures { IfOk result (λ got. got ≤ length buffer.new) }
 {
@@ -198,9 +210,5 @@ fn main(rt: HostRuntime) -> io::Result<()> {
     let most = most_bytes();
     let mut buffer = text_buffer();
     let got = read_full(&mut rt.reader(), &mut buffer)?;
-    if most < got {
-        answer(&rt, &buffer[..most], true)
-    } else {
-        answer(&rt, &buffer[..got], false)
-    }
+    answer(&rt, &buffer[..got.min(most)], most < got)
 }

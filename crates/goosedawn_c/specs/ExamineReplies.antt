@@ -5,8 +5,8 @@ use Rattle.model.specs.Tables.{Contract}
 use Rattle.model.specs.Answers.{Verdict, fine, refused, pass, tree}
 use Rattle.model.specs.Examining.{examining, ExaminingMeans}
 use Rattle.model.proofs.Meaning.ExaminingAnswers.{examining_number, examining_means}
+use Rattle.answers.specs.declared.numbered.Refusal.{Refusal}
 use Rattle.examining.specs.Numbers.{refusal_for}
-use Rattle.examining.specs.declared.refusals.Refusal.{Refusal}
 use Rattle.checking.specs.Calls.{Call}
 use Rattle.checking.proofs.Conclusions.Examined.{examined_call}
 use Rattle.goosedawn_c.specs.declared.refusal.Told.{Told}

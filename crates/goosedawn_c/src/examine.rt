@@ -6,15 +6,18 @@ ghost use Rattle.examining.specs.Answers.{examining_verdict};
 ghost use Rattle.goosedawn_c.specs.Refusals.{told_of};
 
 use crate::refusal::{Told, tell};
-use examining::refusals::refusal_of;
-use examining::{ExaminingAnswer, examine};
+use answers::numbered::Refusal;
+use examining::{ExaminingRefusal, examine};
+use tables::ContractTables;
 
 // The number and the place of an answer.
-fn tell_examined(answer: ExaminingAnswer) -> Told
+fn tell_examined(answer: Result<(), ExaminingRefusal>) -> Told
     ensures { result ≡ told_of (examining_verdict answer) }
 {
-    let refusal = refusal_of(answer);
-    tell(refusal.number, refusal.place)
+    match answer {
+        Ok(()) => tell(0, 0),
+        Err(why) => Told::from(Refusal::from(why)),
+    }
 }
 
 // Examines a list of kinds, five words each, for a contract.
@@ -35,7 +38,7 @@ pub extern "C" fn goosedawn_examine(
     ensures { result ≡ told_of (examining (contract symbols input_states output_states counts.now input_rows.now
         input_marks.now output_table.now output_marks.now nodes.now rules.now) words.now) }
 {
-    let answer = examine(
+    let contract = ContractTables {
         symbols,
         input_states,
         output_states,
@@ -46,7 +49,6 @@ pub extern "C" fn goosedawn_examine(
         output_marks,
         nodes,
         rules,
-        words,
-    );
-    tell_examined(answer)
+    };
+    tell_examined(examine(&contract, words))
 }

@@ -3,6 +3,8 @@
 // A slice is a pointer, then a length. What comes back is document 01's answer in four numbers; specs/Replies.antt gives
 // them, and include/goosedawn.h says in plain words what each function does. Merging two output types, the shorter of two examples and
 // examining a list of kinds have modules of their own.
+//
+// C has neither slices in a struct nor Option and Result: so a contract is ten parameters here, and an answer or a refusal is numbers.
 #![tactic(auto)]
 
 pub mod examine;
@@ -21,15 +23,18 @@ ghost use Rattle.answers.specs.Numbers.{numbered};
 ghost use Rattle.goosedawn_c.specs.Replies.{reply, reply_of, Checks, Judges, Runs, Writes};
 
 use admission::admit;
-use answers::numbered::{Answer, of_admission, of_checking, of_judging, of_running, of_writing};
+use answers::numbered::{
+    Answer, Refusal, of_admission, of_checking, of_judging, of_running, of_writing,
+};
 use checking::check;
 use judging::judge;
 use running::run;
+use tables::ContractTables;
 use writing::write_out;
 
 // An answer: which one, and its values.
 #[repr(C)]
-#[derive(Clone, Copy)]
+#[derive(Clone, Copy, Debug, PartialEq, Eq)]
 pub struct Reply {
     pub answer: usize,
     pub first: usize,
@@ -49,18 +54,18 @@ fn reply_with(answer: usize, first: usize, second: usize, third: usize) -> Reply
 }
 
 // The reply of an answer.
-fn reply_of(answer: Answer) -> Reply
+fn reply_of(answer: Result<Answer, Refusal>) -> Reply
     ensures { result ≡ reply_of (numbered answer) }
 {
     match answer {
-        Answer::Refused(number, place) => reply_with(0, number, place, 0),
-        Answer::Stopped(limit, height) => reply_with(0, 10, limit, height),
-        Answer::Admitted => reply_with(1, 0, 0, 0),
-        Answer::Judged(result, taken) => reply_with(2, result, taken, 0),
-        Answer::Pass(count) => reply_with(3, count, 0, 0),
-        Answer::Tree(row) => reply_with(4, row, 0, 0),
-        Answer::Ran(root, used, taken) => reply_with(5, root, used, taken),
-        Answer::Written(count) => reply_with(6, count, 0, 0),
+        Err(Refusal { number, place }) => reply_with(0, number, place, 0),
+        Ok(Answer::Stopped(limit, height)) => reply_with(0, 10, limit, height),
+        Ok(Answer::Admitted) => reply_with(1, 0, 0, 0),
+        Ok(Answer::Judged(result, taken)) => reply_with(2, result, taken, 0),
+        Ok(Answer::Pass(count)) => reply_with(3, count, 0, 0),
+        Ok(Answer::Tree(row)) => reply_with(4, row, 0, 0),
+        Ok(Answer::Ran(root, used, taken)) => reply_with(5, root, used, taken),
+        Ok(Answer::Written(count)) => reply_with(6, count, 0, 0),
     }
 }
 
@@ -81,7 +86,7 @@ pub extern "C" fn goosedawn_admit(
     ensures { result ≡ reply_of (model.admit (contract symbols input_states output_states counts.now input_rows.now
         input_marks.now output_table.now output_marks.now nodes.now rules.now)) }
 {
-    let answer = admit(
+    let contract = ContractTables {
         symbols,
         input_states,
         output_states,
@@ -92,7 +97,8 @@ pub extern "C" fn goosedawn_admit(
         output_marks,
         nodes,
         rules,
-    );
+    };
+    let answer = admit(&contract);
     reply_of(of_admission(answer))
 }
 
@@ -115,7 +121,7 @@ pub extern "C" fn goosedawn_judge(
     ensures { Judges result kind.new (judging (contract symbols input_states output_states counts.now input_rows.now
         input_marks.now output_table.now output_marks.now nodes.now rules.now) numbers.now kind.old) }
 {
-    let answer = judge(
+    let contract = ContractTables {
         symbols,
         input_states,
         output_states,
@@ -126,9 +132,8 @@ pub extern "C" fn goosedawn_judge(
         output_marks,
         nodes,
         rules,
-        numbers,
-        kind,
-    );
+    };
+    let answer = judge(&contract, numbers, kind);
     reply_of(of_judging(answer))
 }
 
@@ -152,7 +157,7 @@ pub extern "C" fn goosedawn_check(
     ensures { Checks result rows.new words.new (checking (contract symbols input_states output_states counts.now input_rows.now
         input_marks.now output_table.now output_marks.now nodes.now rules.now) limit rows.old words.old) }
 {
-    let answer = check(
+    let contract = ContractTables {
         symbols,
         input_states,
         output_states,
@@ -163,10 +168,8 @@ pub extern "C" fn goosedawn_check(
         output_marks,
         nodes,
         rules,
-        limit,
-        rows,
-        words,
-    );
+    };
+    let answer = check(&contract, limit, rows, words);
     reply_of(of_checking(answer))
 }
 
@@ -189,7 +192,7 @@ pub extern "C" fn goosedawn_run(
     ensures { Runs result rows.new (running (contract symbols input_states output_states counts.now input_rows.now
         input_marks.now output_table.now output_marks.now nodes.now rules.now) numbers.now rows.old) }
 {
-    let answer = run(
+    let contract = ContractTables {
         symbols,
         input_states,
         output_states,
@@ -200,9 +203,8 @@ pub extern "C" fn goosedawn_run(
         output_marks,
         nodes,
         rules,
-        numbers,
-        rows,
-    );
+    };
+    let answer = run(&contract, numbers, rows);
     reply_of(of_running(answer))
 }
 

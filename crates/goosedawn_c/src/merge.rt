@@ -5,12 +5,14 @@ ghost use Rattle.model.specs.Tables.{type_of};
 ghost use Rattle.merging.specs.Answers.{merging_answer};
 ghost use Rattle.goosedawn_c.specs.MergeReplies.{merging_reply, MergesInto};
 
-use merging::{MergingAnswer, merge};
-use merging_tests::{fault_number, fault_place};
+use answers::numbered::Refusal;
+use merging::merge;
+use merging_tests::{MergingFault, OutputType};
 
-// How many states the merged type has; 0 where something is refused, and then why. Number and place are 0 where nothing is.
+// How many states the merged type has; 0 where something is refused, and then why. Number and place are 0 where nothing is, as C has no
+// Result.
 #[repr(C)]
-#[derive(Clone, Copy)]
+#[derive(Clone, Copy, Debug, PartialEq, Eq)]
 pub struct Merging {
     pub states: usize,
     pub number: usize,
@@ -18,20 +20,23 @@ pub struct Merging {
 }
 
 // The reply of an answer.
-fn merging_of(answer: MergingAnswer) -> Merging
+fn merging_of(answer: Result<usize, MergingFault>) -> Merging
     ensures { result ≡ merging_reply (merging_answer answer) }
 {
     match answer {
-        MergingAnswer::Merged(states) => Merging {
+        Ok(states) => Merging {
             states,
             number: 0,
             place: 0,
         },
-        MergingAnswer::Refused(fault) => Merging {
-            states: 0,
-            number: fault_number(fault),
-            place: fault_place(fault),
-        },
+        Err(fault) => {
+            let Refusal { number, place } = Refusal::from(fault);
+            Merging {
+                states: 0,
+                number,
+                place,
+            }
+        }
     }
 }
 
@@ -54,17 +59,17 @@ pub extern "C" fn goosedawn_merge(
         second_symbols (type_of second_states second_table.now second_marks.now)
         merged_table.old merged_marks.old) }
 {
-    let answer = merge(
+    let first = OutputType {
         symbols,
         states,
         table,
         marks,
-        second_symbols,
-        second_states,
-        second_table,
-        second_marks,
-        merged_table,
-        merged_marks,
-    );
-    merging_of(answer)
+    };
+    let second = OutputType {
+        symbols: second_symbols,
+        states: second_states,
+        table: second_table,
+        marks: second_marks,
+    };
+    merging_of(merge(&first, &second, merged_table, merged_marks))
 }

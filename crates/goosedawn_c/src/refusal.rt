@@ -2,9 +2,11 @@
 ghost use Rattle.std.specs.Prelude.{◌≡◌};
 ghost use Rattle.goosedawn_c.specs.Refusals.{told};
 
-// A refusal's number and place; both are 0 where nothing is refused.
+use answers::numbered::Refusal;
+
+// A refusal's number and place; both are 0 where nothing is refused, as C has no Option.
 #[repr(C)]
-#[derive(Clone, Copy)]
+#[derive(Clone, Copy, Debug, PartialEq, Eq)]
 pub struct Told {
     pub number: usize,
     pub place: usize,
@@ -15,4 +17,12 @@ pub fn tell(number: usize, place: usize) -> Told
     ensures { result ≡ told number place }
 {
     Told { number, place }
+}
+
+impl From<Refusal> for Told {
+    ghost from_gives = { λ refusal it. it ≡ told refusal.number refusal.place };
+
+    fn from(refusal: Refusal) -> Told {
+        tell(refusal.number, refusal.place)
+    }
 }

@@ -1,24 +1,14 @@
 // The shorter of two examples for C and Rust: which stretch of the two buffers it is, and why there is none.
 ghost use Rattle.std.specs.Prelude.{◌≡◌};
 ghost use Rattle.model.specs.Shorter.{shorter_verdict};
-ghost use Rattle.reading.specs.Answers.{document_verdict};
-ghost use Rattle.comparing.specs.Answers.{comparing_verdict, refusal_verdict};
+ghost use Rattle.comparing.specs.Answers.{comparing_verdict};
 ghost use Rattle.comparing.specs.Stretches.{as_part, shorter_part};
 ghost use Rattle.goosedawn_c.specs.Refusals.{told_of};
 
 use crate::refusal::{Told, tell};
 use answers::DocumentFault;
-use comparing::{ComparingFault, Refusal, shorter, shorter_refusal};
-
-// What is wrong with a buffer, by the number of a tree without end and the number of a fault.
-fn tell_document(endless: usize, faulty: usize, fault: DocumentFault) -> Told
-    ensures { result ≡ told_of (document_verdict endless faulty fault) }
-{
-    match fault {
-        DocumentFault::Length(numbers) => tell(endless, numbers),
-        DocumentFault::Number(place) => tell(faulty, place),
-    }
-}
+use answers::numbered::Refusal;
+use comparing::{ComparingFault, shorter, shorter_refusal};
 
 // Why two buffers are not compared: 1; 11 or 12 of the first; 54 or 55 of the second.
 fn tell_fault(fault: ComparingFault) -> Told
@@ -26,18 +16,9 @@ fn tell_fault(fault: ComparingFault) -> Told
 {
     match fault {
         ComparingFault::Symbols => tell(1, 0),
-        ComparingFault::First(wrong) => tell_document(11, 12, wrong),
-        ComparingFault::Second(wrong) => tell_document(54, 55, wrong),
-    }
-}
-
-// What the second question says: 0 for nothing.
-fn tell_refusal(refusal: Refusal) -> Told
-    ensures { result ≡ told_of (refusal_verdict refusal) }
-{
-    match refusal {
-        Refusal::Nothing => tell(0, 0),
-        Refusal::Because(fault) => tell_fault(fault),
+        ComparingFault::First(wrong) => Told::from(Refusal::from(wrong)),
+        ComparingFault::Second(DocumentFault::Length(numbers)) => tell(54, numbers),
+        ComparingFault::Second(DocumentFault::Number(place)) => tell(55, place),
     }
 }
 
@@ -61,5 +42,5 @@ pub extern "C" fn goosedawn_shorter_into<'a, 'b>(
 pub extern "C" fn goosedawn_shorter_refusal(symbols: usize, first: &[u16], second: &[u16]) -> Told
     ensures { result ≡ told_of (shorter_verdict symbols first.now second.now) }
 {
-    tell_refusal(shorter_refusal(symbols, first, second))
+    shorter_refusal(symbols, first, second).map_or(tell(0, 0), tell_fault)
 }

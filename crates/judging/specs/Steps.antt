@@ -1,7 +1,7 @@
 -- Judging step by step: each refusal and the judgement, as the definition gives them.
 use Rattle.std.specs.Prelude.{◌≡◌, List, [], ◌∷◌, ◌++◌, Bool, length, take}
 use Rattle.std.proofs.Math.Path.{refl}
-use Rattle.std.proofs.Common.{ap, ap₂, subst, sym, ◌∙◌}
+use Rattle.std.proofs.Common.{ap, ap₂, sym, ◌∙◌}
 use Prim.Native.Nat.{ℕ}
 use borrow.Author.Tests.{eq-eqb, ne_eqb}
 use Rattle.foundation.specs.Tests.{choose}
@@ -9,17 +9,17 @@ use Rattle.model.specs.Tables.{Contract}
 use Rattle.model.specs.Trees.{Tree}
 use Rattle.model.specs.Kinds.{kind_of}
 use Rattle.model.specs.Documents.{document_tree, numbers_taken, leading_tree, leading_verdict}
-use Rattle.model.specs.Answers.{fine, refuse_if, ◌then◌, Answer, judged, refusal, given}
+use Rattle.model.specs.Answers.{fine, refuse_if, ◌then◌, Answer, admitted, judged, refusal, given}
 use Rattle.model.specs.Admission.{admission, admit}
 use Rattle.model.specs.Judging.{Judged, judgement, judging_verdict, judging}
 use Rattle.model.proofs.Laws.Answers.{given_stopped}
 use Rattle.model.proofs.Laws.Established.{Established}
-use Rattle.model.proofs.Laws.Documents.{Document}
+use Rattle.model.proofs.Laws.Admitted.{established, admit_fine}
 use Rattle.answers.specs.Numbers.{contract_refusal, document_refusal}
 use Rattle.answers.specs.declared.ContractFault.{ContractFault}
 use Rattle.answers.specs.declared.DocumentFault.{DocumentFault}
 use Rattle.reading.specs.Answers.{fault_verdict, fault_given}
-use Rattle.reading.specs.Taken.{TakesDocument, all_taken}
+use Rattle.reading.specs.Taken.{TakesDocument, taken_fine, all_taken}
 use Rattle.answers.proofs.Answered.{refused_as}
 use Rattle.breaking.specs.declared.Verdicts.{Verdicts}
 use Rattle.breaking.specs.Verdicts.{VerdictsOf, taking, breaking, taking_is, breaking_is}
@@ -55,18 +55,20 @@ comes_judged C v t result taken held written known of kind puts says =
     let is : told v held ≡ judgement C (take 5 held) = ap₂ judgement_by (taking_is C known v of held) (breaking_is C known v of held) in
     record { answers = ap (λ (r : ℕ). judged r taken) (says ∙ is ∙ ap (judgement C) five); closes = puts ∙ five }
 
--- the numbers taken are a document of D too, where D is this contract
-pub document_in : {C : Contract} {taken : ℕ} {numbers : List ℕ} → TakesDocument C.transformation.symbols taken numbers → (D : Contract) → D ≡ C
-    → Document D.transformation.symbols (take taken numbers)
-document_in {taken = taken} {numbers = numbers} d D e =
-    subst (λ (D : Contract). Document D.transformation.symbols (take taken numbers)) (sym e) d.leads.document
-
 -- what is known where nothing is refused
 pub record LetIn (C : Contract) (taken : ℕ) (numbers buffer : List ℕ) : Type 0 where
   pub passed : admission C ≡ fine
   pub known : Established C
   pub five : length buffer ≡ 5
   pub read : TakesDocument C.transformation.symbols taken numbers
+
+pub let-in : {C : Contract} {taken : ℕ} {numbers buffer : List ℕ} → admitted ≡ admit C → length buffer ≡ 5
+    → fine ≡ leading_verdict C.transformation.symbols numbers
+    → taken ≡ numbers_taken C.transformation.symbols numbers
+    → LetIn C taken numbers buffer
+let-in {C} e five passes same =
+    let good = admit_fine C (sym e) in
+    record { passed = good; known = established C good; five = five; read = taken_fine _ _ _ (sym passes) same }
 
 module _ (C : Contract) (numbers buffer : List ℕ) where
   pub refused_contract : (fault : ContractFault) → contract_refusal fault ≡ admit C → Comes (contract_refusal fault) buffer (judging C numbers buffer)
@@ -90,13 +92,13 @@ module _ (C : Contract) (numbers buffer : List ℕ) where
       rw (e, eq-eqb (length buffer) 5 l, ← d) (fault_given fault (λ (a : Answer). record { answer = a; words = buffer }) _) in
       rw q (record { answers = refl; closes = refl })
 
-  -- where nothing is refused: the judgement of the numbers taken, by D, which is this contract
-  pub judged_document : {taken : ℕ} → LetIn C taken numbers buffer → {answer : Answer} {words : List ℕ} (D : Contract) → D ≡ C
-      → Comes answer words (judged_tree D (document_tree (take taken numbers)) (length (take taken numbers)))
+  -- where nothing is refused: the judgement of the numbers taken
+  pub judged_document : {taken : ℕ} → LetIn C taken numbers buffer → {answer : Answer} {words : List ℕ}
+      → Comes answer words (judged_tree C (document_tree (take taken numbers)) (length (take taken numbers)))
       → Comes answer words (judging C numbers buffer)
   unfolding judging judging_verdict leading_tree given ◌then◌ refuse_if
-  judged_document {taken} l D same comes =
+  judged_document {taken} l comes =
       let S : ℕ = C.transformation.symbols in
       let q : judging C numbers buffer ≡ judged_tree C (document_tree (take (numbers_taken S numbers) numbers)) (numbers_taken S numbers) =
       rw (l.passed, eq-eqb (length buffer) 5 l.five, l.read.passes) in
-      rw (q, ← l.read.same) (rw (same, all_taken l.read) at comes)
+      rw (q, ← l.read.same) (rw (all_taken l.read) at comes)

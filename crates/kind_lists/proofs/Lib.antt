@@ -1,4 +1,3 @@
--- Lemmas of the proofs: lists that are cleared from a place on, what an offer comes to, and how offers end.
-pub mod Zeros
+-- Lemmas of the proofs: what an offer comes to, and how offers end.
 pub mod Offers
 pub mod Stops

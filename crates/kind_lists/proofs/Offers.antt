@@ -1,10 +1,11 @@
 -- What an offer comes to, by cases.
-use mathlib.Core.Path.{◌≡◌, ap, subst, sym, ◌∙◌}
+use mathlib.Core.Path.{◌≡◌, ap, sym, ◌∙◌}
 use mathlib.Core.Bool.{Bool, true, false, not}
 use mathlib.Core.List.{List}
-use Prim.Native.Nat.{ℕ, ◌+◌, ◌<◌}
+use Prim.Native.Nat.{ℕ, ◌+◌}
 use borrow.Author.Tests.{eq-eqb, ne_eqb}
 use lib.ListN.{set}
+use Rattle.std.specs.Prelude.{Ok, Err}
 use Rattle.foundation.specs.Tests.{choose}
 use Rattle.breaking.specs.Verdicts.{breaking}
 use Rattle.breaking.specs.declared.Verdicts.{Verdicts}
@@ -12,10 +13,7 @@ use Rattle.kind_slots.specs.Stored.{kind_listed, with_kind}
 use Rattle.kind_slots.specs.Slots.{is_free, slot_of, entry_of, Entered}
 use Rattle.kind_slots.proofs.Finding.{slots_tell}
 use Rattle.kind_lists.specs.Listing.{with_row, Offering, Becomes, offering}
-use Rattle.kind_lists.specs.Closing.{rows_standing}
-use Rattle.kind_lists.specs.declared.Progress.TheVariants as progress
-use Rattle.kind_lists.specs.declared.ListEnd.{ListEnd}
-use Rattle.kind_lists.specs.declared.ListEnd.TheVariants as list-end
+use Rattle.kind_lists.specs.declared.Stop.TheVariants as stop
 
 module _ (v : Verdicts) (limit n symbol left right : ℕ) (kind slots rows words : List ℕ) (e : Entered words n slots) {slot : ℕ} (searched : slot ≡ slot_of words slots kind) {listed : Bool} (occupied : listed ≡ not (is_free slots slot)) where
   abbrev pub outcome : Offering
@@ -25,7 +23,7 @@ module _ (v : Verdicts) (limit n symbol left right : ℕ) (kind slots rows words
   told : listed ≡ kind_listed words n kind
   told = occupied ∙ ap (λ (s : ℕ). not (is_free slots s)) searched ∙ slots_tell words n slots e kind
 
-  pub offer_old : listed ≡ true → Becomes outcome (progress.Going n) slots rows words
+  pub offer_old : listed ≡ true → Becomes outcome (Ok n) slots rows words
   unfolding offering
   offer_old t = let old = sym told ∙ t in record { answer = rw old; slots = rw old; rows = rw old; words = rw old }
 
@@ -33,7 +31,7 @@ module _ (v : Verdicts) (limit n symbol left right : ℕ) (kind slots rows words
     new : kind_listed words n kind ≡ false
     new = sym told ∙ t
 
-    pub offer_full : n ≡ limit → Becomes outcome progress.Full slots rows words
+    pub offer_full : n ≡ limit → Becomes outcome (Err stop.Full) slots rows words
     unfolding offering
     offer_full f =
         let full = eq-eqb n limit f in
@@ -42,7 +40,7 @@ module _ (v : Verdicts) (limit n symbol left right : ℕ) (kind slots rows words
     -- where there is a row left
     pub offer_stored : (n ≡ limit → ⊥) → {broken : Bool} → broken ≡ breaking v.accepted v.refused kind → (b : Bool) → broken ≡ b
         → {slots' rows' words' : List ℕ} → slots' ≡ set slots slot (entry_of kind n) → rows' ≡ with_row rows n symbol left right → words' ≡ with_kind words n kind
-        → Becomes outcome (choose b (progress.Breaks n) (progress.Going (n + 1))) slots' rows' words'
+        → Becomes outcome (choose b (Err (stop.Breaks n)) (Ok (n + 1))) slots' rows' words'
     unfolding offering
     offer_stored f eb b e es er ew =
         let room = ne_eqb n limit f in
@@ -53,7 +51,3 @@ module _ (v : Verdicts) (limit n symbol left right : ℕ) (kind slots rows words
           rows = rw (new, room) er;
           words = rw (new, room) ew;
         }
-
--- the row that breaks a contract is few
-pub standing_small : (p : ListEnd) (j : ℕ) → p ≡ list-end.Breaks j → rows_standing p < 65536 → j + 1 < 65536
-standing_small p j e h = subst (λ (x : ListEnd). rows_standing x < 65536) e h

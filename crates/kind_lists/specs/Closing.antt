@@ -1,5 +1,5 @@
 -- The end of a check: how the end of the list and the buffers, cleared after the rows that stand, give what the model says.
-use Rattle.std.specs.Prelude.{◌≡◌, refl, List, [], ℕ, suc, ◌+◌, ◌*◌, length, take}
+use Rattle.std.specs.Prelude.{◌≡◌, refl, List, [], ℕ, suc, ◌+◌, ◌*◌, length, take, Result, Ok, Err}
 use Rattle.std.proofs.Common.{ap, subst, sym, ◌∙◌, arith}
 use Rattle.std.proofs.Math.Seq.{take-length}
 use Rattle.foundation.specs.Lists.{zero_filled}
@@ -11,19 +11,19 @@ use Rattle.model.specs.Meaning.{NoneBreaks}
 use Rattle.model.proofs.Rounds.Stopping.{check_tree, check_stop, check_pass}
 use Rattle.kind_lists.specs.Held.{Holds}
 use Rattle.kind_lists.specs.Outcomes.{EndOfList}
-use Rattle.kind_lists.specs.declared.ListEnd.{ListEnd}
-use Rattle.kind_lists.specs.declared.ListEnd.TheVariants as list-end
+use Rattle.kind_lists.specs.declared.ListStop.{ListStop}
+use Rattle.kind_lists.specs.declared.ListStop.TheVariants as list-stop
 
 -- how many rows stand, and the answer
-abbrev pub rows_standing : ListEnd → ℕ
-rows_standing (list-end.All n) = n
-rows_standing (list-end.Breaks j) = j + 1
-rows_standing (list-end.Full h) = 0
+abbrev pub rows_standing : Result ℕ ListStop → ℕ
+rows_standing (Ok n) = n
+rows_standing (Err (list-stop.Breaks j)) = j + 1
+rows_standing (Err (list-stop.Full h)) = 0
 
-abbrev pub answer_after : ℕ → ListEnd → Answer
-answer_after limit (list-end.All n) = pass n
-answer_after limit (list-end.Breaks j) = tree j
-answer_after limit (list-end.Full h) = stopped limit h
+abbrev pub answer_after : ℕ → Result ℕ ListStop → Answer
+answer_after limit (Ok n) = pass n
+answer_after limit (Err (list-stop.Breaks j)) = tree j
+answer_after limit (Err (list-stop.Full h)) = stopped limit h
 
 -- an answer and closing buffers are those of a check
 pub record Gives (checked : Checked) (answer : Answer) (rows words : List ℕ) : Type 0 where
@@ -49,18 +49,18 @@ module _ (C : Contract) (limit : ℕ) (rows words : List ℕ) where
   unfolding standing row_numbers kind_numbers
   nothing answer row_room word_room = record { answered = refl; rows_closed = rw row_room; words_closed = rw word_room }
 
-  pub closes : (e : ListEnd) → EndOfList C limit rows words e
+  pub closes : (e : Result ℕ ListStop) → EndOfList C limit rows words e
       → Gives (check C limit) (answer_after limit e) (zero_filled (length rows) (take (3 * rows_standing e) rows)) (zero_filled (length words) (take (5 * rows_standing e) words))
-  closes (list-end.All n) o =
+  closes (Ok n) o =
       let e = check_pass C limit o.height o.ended o.holds.fits (subst (λ (k : ℕ). NoneBreaks C k (rounds (kind_automaton C) o.height)) o.counted o.none) in
       rw e (subst (λ (k : ℕ). Gives (standing C limit (pass (length (rounds (kind_automaton C) o.height))) (rounds (kind_automaton C) o.height)) (pass k) (zero_filled (length rows) (take (3 * n) rows)) (zero_filled (length words) (take (5 * n) words))) (sym o.counted)
       (filled (pass (length (rounds (kind_automaton C) o.height))) (rounds (kind_automaton C) o.height) o.holds n o.counted))
-  closes (list-end.Breaks j) o =
+  closes (Err (list-stop.Breaks j)) o =
       let last = o.last in
       let fits = o.holds.fits in
       let e = check_tree C limit o.list o.beginning j (omega arith) (omega arith) o.broken o.none in
       let whole : take (suc j) o.list ≡ o.list = ap (λ (k : ℕ). take k o.list) (sym last) ∙ take-length o.list in
       rw (e, whole) (filled (tree j) o.list o.holds (j + 1) (omega arith))
-  closes (list-end.Full h) o =
+  closes (Err (list-stop.Full h)) o =
       let e = check_stop C limit h o.last o.overfull.none in
       rw e (nothing (stopped limit h) o.overfull.row_room o.overfull.word_room)

@@ -1,5 +1,5 @@
 -- What an offer comes to: the kind is added to the list as the model adds it, or the answer is known.
-use Rattle.std.specs.Prelude.{◌≡◌, List, [], ◌∷◌, ◌++◌, Bool, ℕ, suc, ◌+◌, eqb, length, set}
+use Rattle.std.specs.Prelude.{◌≡◌, List, [], ◌∷◌, ◌++◌, Bool, ℕ, suc, ◌+◌, eqb, length, set, Result, Ok, Err}
 use Rattle.std.proofs.Math.Path.{refl}
 use Rattle.std.proofs.Common.{ap, subst, sym, ◌∙◌, add-one, arith, eqb-true, length-append}
 use Rattle.std.proofs.Math.Bool.{true, false}
@@ -24,8 +24,8 @@ use Rattle.kind_slots.proofs.Finding.{one_entered}
 use Rattle.kind_lists.specs.Listing.{with_row, Offering, Becomes, offering}
 use Rattle.kind_lists.specs.Held.{Holds, listed_has, not_listed, stored_held, breaks_padded}
 use Rattle.kind_lists.specs.Outcomes.{Unbroken, Overfull, Outcome}
-use Rattle.kind_lists.specs.declared.Progress.{Progress}
-use Rattle.kind_lists.specs.declared.Progress.TheVariants as progress
+use Rattle.kind_lists.specs.declared.Stop.{Stop}
+use Rattle.kind_lists.specs.declared.Stop.TheVariants as stop
 
 -- a row is offered to a list that the buffers hold
 module _ (C : Contract) (known : Established C) (v : Verdicts) (verdicts : VerdictsOf C.input.marks C.output.marks v)
@@ -95,7 +95,7 @@ module _ (C : Contract) (known : Established C) (v : Verdicts) (verdicts : Verdi
 
         by_verdict : (b : Bool) → breaking v.accepted v.refused (kind ++ (0 ∷ [])) ≡ b
             → Outcome C (λ m. Unbroken C limit m (set slots (slot_of words slots (kind ++ (0 ∷ []))) (entry_of (kind ++ (0 ∷ [])) n)) (with_row rows n s i j) (with_kind words n (kind ++ (0 ∷ []))) grown) limit round (with_row rows n s i j) (with_kind words n (kind ++ (0 ∷ [])))
-            (choose b (progress.Breaks n) (progress.Going (n + 1)))
+            (choose b (Err (stop.Breaks n)) (Ok (n + 1)))
         by_verdict true e =
             record {
               list = grown;
@@ -123,6 +123,6 @@ module _ (C : Contract) (known : Established C) (v : Verdicts) (verdicts : Verdi
     by_list false t = by_room t (eqb n limit) refl
 
     -- .. as the code offers it
-    pub offered : (r : Progress) (slots' rows' words' : List ℕ) → Becomes offer r slots' rows' words'
+    pub offered : (r : Result ℕ Stop) (slots' rows' words' : List ℕ) → Becomes offer r slots' rows' words'
         → Outcome C (λ m. Unbroken C limit m slots' rows' words' grown) limit round rows' words' r
     offered r slots' rows' words' b = rw (b.answer, b.slots, b.rows, b.words) (by_list (kind_listed words n (kind ++ (0 ∷ []))) refl)

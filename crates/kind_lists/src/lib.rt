@@ -1,25 +1,21 @@
-// The list of kinds as it stands in the lent buffers: finding a kind, offering one, how the list ends, and closing the buffers then.
+// The list of kinds as it stands in the lent buffers: finding a kind, offering one, why the list ends, and the answer then.
 #![tactic(auto)]
 
 pub mod closing;
 pub mod listing;
 
-// How offers to the list end.
-#[derive(Clone, Copy)]
-pub enum Progress {
-    // The list has this many rows, and none breaks the contract.
-    Going(usize),
+// Why no more kinds are offered to the list.
+#[derive(Clone, Copy, Debug, PartialEq, Eq)]
+pub enum Stop {
     // This row breaks the contract.
     Breaks(usize),
     // There are more kinds than rows.
     Full,
 }
 
-// How the list ends.
-#[derive(Clone, Copy)]
-pub enum ListEnd {
-    // All kinds are listed, this many, and none breaks the contract.
-    All(usize),
+// Why not all kinds are listed.
+#[derive(Clone, Copy, Debug, PartialEq, Eq)]
+pub enum ListStop {
     // This row breaks the contract.
     Breaks(usize),
     // There are more kinds than rows: this is the greatest height up to which those of all trees are listed.

@@ -12,13 +12,12 @@ use root_marks::{empty_mark, root_mark};
 fn ones_from(facts: usize, from: usize) -> u64
     ensures { result ≡ ones_from facts from }
 {
-    if facts <= from {
-        return 0;
+    let count = facts.saturating_sub(from);
+    if count < 64 {
+        lane_of_ones(count as u64)
+    } else {
+        u64::MAX
     }
-    if facts - from > 63 {
-        return lane_of_ones(63) * 2 + 1;
-    }
-    lane_of_ones((facts - from) as u64)
 }
 
 // A one for each state and for the two marks.
@@ -26,9 +25,7 @@ fn states_and_marks(states: usize) -> u64
     requires { states ≤ 32 }
     ensures { result ≡ state_mask states }
 {
-    let ones = lane_of_ones(states as u64);
-    let with_root = ones + root_mark(true);
-    with_root + empty_mark()
+    lane_of_ones(states as u64) + root_mark(true) + empty_mark()
 }
 
 // The bits of a contract with so many input states and facts.

@@ -62,9 +62,6 @@ pub record Along (slots : List ℕ) (from others place : ℕ) : Type 0 where
   pub placed : place ≡ from + steps
   pub past : Past slots from others steps
 
-pub along_none : (slots : List ℕ) (from others : ℕ) → Along slots from others from
-along_none slots from others = record { steps = 0; placed = omega arith; past = λ j l. absurd (omega arith) }
-
 module _ (slots : List ℕ) (half : HalfFree slots) (from others : ℕ) where
   past_few : (k : ℕ) → Past slots from others k → k < 1024
   past_few k past = go (dec_lt k 1024)
@@ -118,6 +115,10 @@ module _ (words slots kind : List ℕ) where
     pub placed : place ≡ first_slot kind + steps
     pub read : entry ≡ get_or slots (slot_after (first_slot kind) steps) 0
     pub passed : NoneEnds steps
+
+  -- .. which is what the place's slot has
+  pub read_here : {place slot entry : ℕ} → Reached place (get_or slots (place % 1024) 0) → slot ≡ place % 1024 → entry ≡ get_or slots slot 0 → Reached place entry
+  read_here {place} reached here read = subst (Reached place) (sym (read ∙ ap (λ (i : ℕ). get_or slots i 0) here)) reached
 
 module _ (words slots kind : List ℕ) (s : Searchable words slots) where
   pub passed_few : (k : ℕ) → NoneEnds words slots kind k → k < 1024
@@ -186,9 +187,6 @@ module _ (words slots kind : List ℕ) (s : Searchable words slots) where
 
     occupied_here : (entry ≡ 0 → ⊥) → is_free slots (slot_after (first_slot kind) reached.steps) ≡ false
     occupied_here some = ne_eqb _ 0 (λ z. some (reached.read ∙ z))
-
-    pub reached_stands : (entry ≡ 0 → ⊥) → EntryStands words entry
-    reached_stands some = subst (λ (x : ℕ). EntryStands words x) (sym reached.read) (s.stands (slot_after (first_slot kind) reached.steps) (occupied_here some))
 
     -- the search ends at a row of this kind
     pub ends_at_row : same_kind words (row_of entry) kind ≡ true → place % 1024 ≡ slot_of words slots kind

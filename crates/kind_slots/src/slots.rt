@@ -6,36 +6,27 @@ ghost use Rattle.kind_slots.specs.Slots.{kind_sum, weighted_sum, print_of, entry
 use crate::stored::same_kind;
 
 // The number of a slot.
-#[derive(Clone, Copy)]
+#[derive(Clone, Copy, Debug, PartialEq, Eq)]
 pub struct Slot(pub usize);
 
 // The two sums of a kind's words.
-#[derive(Clone, Copy)]
+#[derive(Clone, Copy, Debug, PartialEq, Eq)]
 struct Sums {
     plain: u64,
     weighted: u64,
 }
 
-// The sum of two words, without the carry out of 64 bits.
-fn plus(a: u64, b: u64) -> u64
-    ensures { result ≡ (a + b) % 2 ^ 64 }
-{
-    std::num::wrapping_add_u64(a, b)
-}
-
-// The five words of a kind, added, and added with weights: the sum of the sums so far.
+// The five words of a kind, added without the carry out of 64 bits, and added with weights: the sum of the sums so far.
 fn sums_of(kind: &[u64; 6]) -> Sums
     ensures { (result.plain ≡ kind_sum kind.now) × (result.weighted ≡ weighted_sum kind.now) }
 {
-    let two = plus(kind[0], kind[1]);
-    let three = plus(two, kind[2]);
-    let four = plus(three, kind[3]);
-    let five = plus(four, kind[4]);
-    let weighted = plus(plus(plus(plus(kind[0], two), three), four), five);
-    Sums {
-        plain: five,
-        weighted: weighted,
+    let mut plain: u64 = 0;
+    let mut weighted: u64 = 0;
+    for &word in &kind[..5] {
+        plain = plain.wrapping_add(word);
+        weighted = weighted.wrapping_add(plain);
     }
+    Sums { plain, weighted }
 }
 
 // The fingerprint of a kind with this weighted sum.
@@ -66,8 +57,7 @@ fn entry_in(slots: &[u32; 1024], slot: Slot) -> u32
     requires { slot.0 < 1024 }
     ensures { result ≡ slice_index slots.now slot.0 }
 {
-    let at = slot.0;
-    slots[at]
+    slots[slot.0]
 }
 
 // The row of an entry.
@@ -85,21 +75,20 @@ fn is_of_kind(words: &[u64], entry: u32, kind: &[u64; 6]) -> bool
     same_kind(words, row_of(entry), kind)
 }
 
-// The first place from a place on whose slot has none of these bits.
+// The first place from a place on whose slot has none of these bits. No range bounds the walk: a free slot ends it.
 fn pass_others(slots: &[u32; 1024], from: usize, others: u32) -> usize
     requires { HalfFree slots.now × (from < 2048) }
     ensures { result ≡ from + steps_past slots.now from others }
 {
-    let mut place: usize = from;
-    let mut entry = entry_in(slots, slot_at(place));
-    while entry & others != 0 {
+    let mut place = from;
+    while entry_in(slots, slot_at(place)) & others != 0 {
         place += 1;
-        entry = entry_in(slots, slot_at(place));
     }
     place
 }
 
-// The slot at which the search for a kind ends: its row is the one of this kind, or it is not occupied.
+// The slot at which the search for a kind ends: its row is the one of this kind, or it is not occupied. It is a slot in both cases, which a
+// caller asks by `is_occupied` and enters by `enter_row`: an enum of the two would be taken apart at once.
 pub fn find_slot(words: &[u64], slots: &[u32; 1024], kind: &[u64; 6]) -> Slot
     requires { Searchable words.now slots.now }
     ensures { result.0 ≡ slot_of words.now slots.now kind.now }
@@ -107,16 +96,15 @@ pub fn find_slot(words: &[u64], slots: &[u32; 1024], kind: &[u64; 6]) -> Slot
     let sums = sums_of(kind);
     let others = others_of(print_of(sums.weighted));
     let start = (sums.plain % 1024) as usize;
-    let mut place: usize = pass_others(slots, start, others);
-    let mut entry = entry_in(slots, slot_at(place));
-    while entry != 0 {
-        if is_of_kind(words, entry, kind) {
-            return slot_at(place);
+    let mut place = pass_others(slots, start, others);
+    'search: loop {
+        let slot = slot_at(place);
+        let entry = entry_in(slots, slot);
+        if entry == 0 || is_of_kind(words, entry, kind) {
+            return slot;
         }
         place = pass_others(slots, place + 1, others);
-        entry = entry_in(slots, slot_at(place));
     }
-    slot_at(place)
 }
 
 // Whether a row has entered a slot.
@@ -132,8 +120,6 @@ pub fn enter_row(slots: &mut [u32; 1024], slot: Slot, kind: &[u64; 6], j: usize)
     requires { (slot.0 < 1024) × (j < 512) }
     ensures { slots.new ≡ slice_set slots.old slot.0 (entry_of kind.now j) }
 {
-    let at = slot.0;
-    let sums = sums_of(kind);
-    let print = print_of(sums.weighted);
-    slots[at] = print * 1024 + j as u32;
+    let print = print_of(sums_of(kind).weighted);
+    slots[slot.0] = print * 1024 + j as u32;
 }

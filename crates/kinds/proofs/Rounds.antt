@@ -48,14 +48,6 @@ without_stays C known {kind} made n e z = go (has_stays C.transformation) refl
         ∙ ap (λ (k : List ℕ). k ++ (0 ∷ []))
         (sym (stay_without C known _ _ _ (no_stay_found C.transformation (ltb-false _ _ any))) ∙ ap (stay_kind C) (sym (own_five C known made)))
 
--- elsewhere there are as many as there may be facts
-pub with_all_rounds : (C : Contract) → Established C → (n : ℕ) → n ≡ rounds_of C.transformation → (n ≡ 0 → ⊥) → n ≡ most_facts
-with_all_rounds C known n e some = go (has_stays C.transformation) refl
-  where
-    go : (any : Bool) → has_stays C.transformation ≡ any → n ≡ most_facts
-    go true any = rw any at e
-    go false any = absurd (some (rw any at e))
-
 -- what a symbol's rules make is made of marks, states and facts
 pub symbol_made : (C : Contract) (s : ℕ) (l r : List ℕ) {kind : List ℕ} → kind ≡ symbol_kind C s l r ++ (0 ∷ []) → MadeKind C kind
 unfolding symbol_kind

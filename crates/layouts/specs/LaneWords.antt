@@ -3,11 +3,10 @@
 use Rattle.std.specs.Prelude.{◌≡◌, refl, List, Bool, true, false, eqb, length, get_or}
 use Rattle.std.proofs.Math.Path.{ap}
 use Rattle.std.proofs.Common.{sym, ◌∙◌, add-zero, mod-lt, mod-eq_of_lt, div-lt_iff_lt-mul}
-use Prim.Native.Nat.{ℕ, zero, suc, ◌+◌, ◌*◌, ◌-◌, ◌/◌, ◌%◌, ◌^◌, ◌<◌, ◌≤◌, max}
+use Prim.Native.Nat.{ℕ, zero, suc, ◌+◌, ◌*◌, ◌-◌, ◌/◌, ◌%◌, ◌^◌, ◌<◌, ◌≤◌}
 use Rattle.std.proofs.Math.Nat.{pow-zero, one-le-pow}
 use native.Mathlib.Omega.{arith}
 use Rattle.std.proofs.Math.Decide.{ℕ_discrete, dec_lt}
-use Rattle.std.proofs.Math.ListN.{get_or-eq_default}
 use Rattle.std.proofs.Math.Pow.{pow-lt}
 use Rattle.foundation.specs.Words.{bit}
 use Rattle.foundation.specs.Tests.{choose, ◌and◌, same, below, some_cong}
@@ -16,7 +15,9 @@ use Rattle.foundation.specs.Bits.{bit_shl, bit_shl_low, bit_high, or_to}
 use Rattle.model.specs.Tables.{count_of}
 use Rattle.model.specs.Facts.{digits}
 use Rattle.model.proofs.Laws.Facts.{length_digits}
-use Rattle.kind_words.specs.Lanes.{Lanes, lanes_eq, lanes_or, lane_at, Starts}
+use Rattle.kind_words.specs.Lanes.{Lanes, lanes_eq, lanes_or, lane_at, Starts, Sized}
+use Rattle.kind_words.specs.Kind.{lanes_fit}
+use Rattle.kind_words.specs.Fits.{LayoutFits}
 use Rattle.kind_words.specs.Called.{pow_one, pow_two}
 use Rattle.kind_words.specs.Nodes.{ParameterIs, LanesAre}
 
@@ -146,26 +147,20 @@ module _ (o : ℕ) (some : 0 < o) where
         second_is = λ l. rw (e2, ew) (second_is k l m);
       }
 
--- one count more
-pub bound_more : (counts : List ℕ) (p greatest larger : ℕ) → ((i : ℕ) → i < p → count_of counts i ≤ greatest) → larger ≡ max greatest (count_of counts p)
-    → (i : ℕ) → i < p + 1 → count_of counts i ≤ larger
-bound_more counts p greatest larger h e i l = go (ℕ_discrete i p)
-  where
-    go : Dec (i ≡ p) → count_of counts i ≤ larger
-    go (yes q) = rw q (omega arith)
-    go (no ne) = omega (arith, h i (omega arith))
-
--- past the end stands 0
-pub bound_all : (counts : List ℕ) (greatest : ℕ) → ((i : ℕ) → i < length counts → count_of counts i ≤ greatest) → (i : ℕ) → count_of counts i ≤ greatest
-bound_all counts greatest h i = go (dec_lt i (length counts))
-  where
-    go : Dec (i < length counts) → count_of counts i ≤ greatest
-    go (yes l) = h i l
-    go (no l) = let past : length counts ≤ i = omega arith in omega (arith, get_or-eq_default counts 0 past)
-
 pub weight_some : (o greatest : ℕ) → 0 < o → 0 < first_weight o greatest
 weight_some o greatest h = go (eqb greatest 2)
   where
     go : (b : Bool) → 0 < choose b o 1
     go true = h
     go false = omega arith
+
+-- lanes of a bit for each assignment of so many parameters
+pub sized_for : (o k width : ℕ) → 1 ≤ o → o ≤ 4 → k ≤ 2 → width ≡ o ^ k → Sized o width
+sized_for o k width some few m e = rw e (record { some = one-le-pow k o some; fit = lanes_fit o k some few m })
+
+-- at most four states and two parameters, the words of a layout fit
+pub layout_fits : (o k width ones starts first second : ℕ) → 1 ≤ o → o ≤ 4 → k ≤ 2 → width ≡ o ^ k → ones ≡ 2 ^ width - 1 → starts ≡ starts_word o width
+    → LayoutFits (record { states = o; width = width; ones = ones; starts = starts; first = first; second = second })
+layout_fits o k width ones starts first second some few m ew eo es =
+    let sized = sized_for o k width some few m ew in
+    record { laid = record { sized = sized; lane = eo; firsts = rw es (starts_are o width sized.some) }; some = some; few = few }

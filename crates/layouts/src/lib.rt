@@ -2,7 +2,7 @@
 // procedures' offsets.
 #![tactic(auto)]
 
-ghost use Rattle.std.specs.Prelude.{◌≡◌, ℕ, ◌<◌, ◌≤◌, max, length, get_or};
+ghost use Rattle.std.specs.Prelude.{◌≡◌, ℕ, ◌<◌, ◌≤◌, length, get_or};
 ghost use Rattle.model.specs.Tables.{count_of};
 ghost use Rattle.model.specs.Admission.{most_facts};
 ghost use Rattle.model.specs.Facts.{offset};
@@ -23,12 +23,8 @@ fn starts_word(states: usize, width: u64) -> u64
     ensures { result ≡ starts_word states width }
 {
     let mut word: u64 = 0;
-    let mut place: u64 = 0;
-    let mut q: usize = 0;
-    while q < states {
-        word = word | up(1, place);
-        place += width;
-        q += 1;
+    for q in 0..states {
+        word |= up(1, q as u64 * width);
     }
     word
 }
@@ -39,22 +35,11 @@ fn parameter_word(states: usize, width: u64, weight: u64) -> u64
     ensures { result ≡ parameter_word states width weight }
 {
     let mut word: u64 = 0;
-    let mut c: u64 = 0;
-    while c < width {
-        let state = (c / weight) % (states as u64);
-        word = word | up(up(1, c), state * width);
-        c += 1;
+    for c in 0..width {
+        let state = c / weight % states as u64;
+        word |= up(up(1, c), state * width);
     }
     word
-}
-
-fn larger(a: u16, b: u16) -> u16
-    ensures { result ≡ max a b }
-{
-    if a < b {
-        return b;
-    }
-    a
 }
 
 // The greatest parameter count.
@@ -63,10 +48,8 @@ fn greatest_count(counts: &[u16]) -> u16
     ensures { Greatest counts.now result }
 {
     let mut greatest: u16 = 0;
-    let mut p: usize = 0;
-    while p < counts.len() {
-        greatest = larger(greatest, counts[p]);
-        p += 1;
+    for &count in counts {
+        greatest = greatest.max(count);
     }
     greatest
 }
@@ -75,13 +58,11 @@ fn greatest_count(counts: &[u16]) -> u16
 fn first_weight(states: u64, greatest: u16) -> u64
     ensures { result ≡ first_weight states greatest }
 {
-    if greatest == 2 {
-        return states;
-    }
-    1
+    if greatest == 2 { states } else { 1 }
 }
 
 // How the words of a contract are laid out.
+#[tactic(auto, using(lanes::proofs::Room::power_small))]
 pub fn layout_of(states: usize, counts: &[u16]) -> Layout
     requires { (1 ≤ states) × SmallCounts states counts.now }
     ensures { LayoutFor states counts.now (layout_of result) }
@@ -93,12 +74,12 @@ pub fn layout_of(states: usize, counts: &[u16]) -> Layout
     let first = parameter_word(states, width, first_weight(states as u64, greatest));
     let second = parameter_word(states, width, 1);
     Layout {
-        states: states,
-        width: width,
-        ones: ones,
-        starts: starts,
-        first: first,
-        second: second,
+        states,
+        width,
+        ones,
+        starts,
+        first,
+        second,
     }
 }
 
@@ -116,11 +97,8 @@ pub fn offsets_of(states: usize, counts: &[u16]) -> [u16; PROCEDURES]
     ensures { (p : ℕ) → p < length counts.now → get_or result p 0 ≡ offset states counts.now p }
 {
     let mut offsets = [0u16; PROCEDURES];
-    let mut p: usize = 0;
-    while p < counts.len() {
-        let procedure = Procedure(p as u16);
-        offsets[p] = offset_entry(states, counts, procedure);
-        p += 1;
+    for p in 0..counts.len() {
+        offsets[p] = offset_entry(states, counts, Procedure(p as u16));
     }
     offsets
 }

@@ -1,6 +1,6 @@
 -- Text: blanks, comments, tokens and lines of a script. A text is the list of its bytes; a place is how many bytes stand
 -- before it; what stands from a place on is `rest`.
-use Rattle.std.specs.Prelude.{Bool, ◌&&◌, ◌||◌, not, List, [], ◌∷◌, ℕ, suc, ◌+◌, eqb}
+use Rattle.std.specs.Prelude.{Bool, ◌&&◌, ◌||◌, not, List, [], ◌∷◌, ℕ, suc, eqb, ◌==◌, count_by}
 use Rattle.foundation.specs.Tests.{choose}
 
 -- a byte that a token ends before: space, tab, carriage return, line feed, `#`
@@ -21,10 +21,6 @@ unfoldable pub token_end : (at : ℕ) (rest : List ℕ) → ℕ
 token_end at [] = at
 token_end at (b ∷ rest) = choose (ending b) at (token_end (suc at) rest)
 
-abbrev pub line_feed : ℕ → ℕ
-line_feed b = choose (eqb b 10) 1 0
-
 -- how many line feeds there are
 unfoldable pub newlines : List ℕ → ℕ
-newlines [] = 0
-newlines (b ∷ rest) = line_feed b + newlines rest
+newlines text = count_by (λ b. b == 10) text

@@ -1,27 +1,14 @@
 // Tokens that are numbers.
 ghost use Rattle.std.specs.Prelude.{◌≡◌, ◌+◌, ◌*◌, ◌-◌, ◌≤◌, min};
-ghost use Rattle.lexing.specs.Numerals.{digit, numeral_of};
+ghost use Rattle.lexing.specs.Numerals.{numeral_of};
 
-// What a token is as a number.
-#[derive(Clone, Copy)]
-pub enum Numeral {
-    Number(u16),
+// Why a token is no number from 0 to 65535.
+#[derive(Clone, Copy, Debug, PartialEq, Eq)]
+pub enum NotNumber {
     // Decimal digits, of a value above 65535.
     TooLarge,
     // Not decimal digits alone.
     Word,
-}
-
-fn is_digit(b: u8) -> bool
-    ensures { result ≡ digit b }
-{
-    (48 <= b) & (b <= 57)
-}
-
-fn wide(b: u8) -> u32
-    ensures { result ≡ b }
-{
-    b as u32
 }
 
 // A value with one digit more, or 65536 where it is no less.
@@ -29,30 +16,23 @@ fn with_digit(value: u32, b: u8) -> u32
     requires { (value ≤ 65536) × (48 ≤ b) }
     ensures { result ≡ min (value * 10 + (b - 48)) 65536 }
 {
-    let next = value * 10 + wide(b - 48);
-    if next < 65536 { next } else { 65536 }
+    (value * 10 + u32::from(b - b'0')).min(65536)
 }
 
 // The number that a token is.
-pub fn read_numeral(token: &[u8]) -> Numeral
+#[tactic(auto, using(crate::proofs::Digits::digits))]
+pub fn read_numeral(token: &[u8]) -> Result<u16, NotNumber>
     ensures { result ≡ numeral_of token.now }
 {
-    if token.len() == 0 {
-        return Numeral::Word;
+    if token.is_empty() {
+        return Err(NotNumber::Word);
     }
     let mut value: u32 = 0;
-    let mut place = 0;
-    while place < token.len() {
-        let b = token[place];
-        if !is_digit(b) {
-            return Numeral::Word;
+    for &b in token {
+        if !b.is_ascii_digit() {
+            return Err(NotNumber::Word);
         }
         value = with_digit(value, b);
-        place += 1;
     }
-    if value < 65536 {
-        Numeral::Number(value as u16)
-    } else {
-        Numeral::TooLarge
-    }
+    u16::try_from(value).map_err(|_| NotNumber::TooLarge)
 }

@@ -1,11 +1,10 @@
 // The words that begin statements.
 ghost use Rattle.std.specs.Prelude.{◌≡◌};
-ghost use Rattle.foundation.specs.Tests.{choose};
 ghost use Rattle.foundation.specs.Lists.{same_list};
 ghost use Rattle.lexing.specs.Words.{word_of, table_word, question_word};
 
 // The sizes of a contract.
-#[derive(Clone, Copy)]
+#[derive(Clone, Copy, Debug, PartialEq, Eq)]
 pub enum Size {
     Symbols,
     InputStates,
@@ -13,7 +12,7 @@ pub enum Size {
 }
 
 // The tables of a contract.
-#[derive(Clone, Copy)]
+#[derive(Clone, Copy, Debug, PartialEq, Eq)]
 pub enum Table {
     Counts,
     InputRows,
@@ -25,7 +24,7 @@ pub enum Table {
 }
 
 // The word that begins a statement.
-#[derive(Clone, Copy)]
+#[derive(Clone, Copy, Debug, PartialEq, Eq)]
 pub enum Word {
     Case,
     Size(Size),
@@ -41,84 +40,87 @@ pub enum Word {
 }
 
 // Whether two stretches hold the same bytes.
+#[tactic(auto, using(crate::proofs::Sameness::same_pointwise))]
 pub fn same(a: &[u8], b: &[u8]) -> bool
     ensures { result ≡ same_list a.now b.now }
 {
-    if a.len() != b.len() {
-        return false;
-    }
-    let mut i = 0;
-    while i < a.len() {
-        if a[i] != b[i] {
-            return false;
-        }
-        i += 1;
-    }
-    true
-}
-
-// The word that is meant where the token is spelled so, otherwise another. The words below stand from the last to the first.
-fn or_word(token: &[u8], spelling: &[u8], meant: Word, other: Word) -> Word
-    ensures { result ≡ choose (same_list token.now spelling.now) meant other }
-{
-    if same(token, spelling) {
-        return meant;
-    }
-    other
+    a == b
 }
 
 // A word that asks a question.
+#[tactic(auto, unfolding(crate::specs::Words::question_word))]
 fn question_word(token: &[u8]) -> Word
     ensures { result ≡ question_word token.now }
 {
-    let rest = or_word(token, b"show", Word::Show, Word::Unknown);
-    let rest = or_word(token, b"write", Word::Write, rest);
-    let rest = or_word(token, b"run", Word::Run, rest);
-    let rest = or_word(token, b"check", Word::Check, rest);
-    let rest = or_word(token, b"judge", Word::Judge, rest);
-    or_word(token, b"admit", Word::Admit, rest)
+    if same(token, b"admit") {
+        return Word::Admit;
+    }
+    if same(token, b"judge") {
+        return Word::Judge;
+    }
+    if same(token, b"check") {
+        return Word::Check;
+    }
+    if same(token, b"run") {
+        return Word::Run;
+    }
+    if same(token, b"write") {
+        return Word::Write;
+    }
+    if same(token, b"show") {
+        return Word::Show;
+    }
+    Word::Unknown
 }
 
 // A word that sets a table, or asks a question.
+#[tactic(auto, unfolding(crate::specs::Words::table_word))]
 fn table_word(token: &[u8]) -> Word
     ensures { result ≡ table_word token.now }
 {
-    let rest = or_word(
-        token,
-        b"rules",
-        Word::Table(Table::Rules),
-        question_word(token),
-    );
-    let rest = or_word(token, b"nodes", Word::Table(Table::Nodes), rest);
-    let rest = or_word(
-        token,
-        b"output-marks",
-        Word::Table(Table::OutputMarks),
-        rest,
-    );
-    let rest = or_word(
-        token,
-        b"output-table",
-        Word::Table(Table::OutputTable),
-        rest,
-    );
-    let rest = or_word(token, b"input-marks", Word::Table(Table::InputMarks), rest);
-    let rest = or_word(token, b"input-rows", Word::Table(Table::InputRows), rest);
-    or_word(token, b"counts", Word::Table(Table::Counts), rest)
+    if same(token, b"counts") {
+        return Word::Table(Table::Counts);
+    }
+    if same(token, b"input-rows") {
+        return Word::Table(Table::InputRows);
+    }
+    if same(token, b"input-marks") {
+        return Word::Table(Table::InputMarks);
+    }
+    if same(token, b"output-table") {
+        return Word::Table(Table::OutputTable);
+    }
+    if same(token, b"output-marks") {
+        return Word::Table(Table::OutputMarks);
+    }
+    if same(token, b"nodes") {
+        return Word::Table(Table::Nodes);
+    }
+    if same(token, b"rules") {
+        return Word::Table(Table::Rules);
+    }
+    question_word(token)
 }
 
 // The word that a token is.
+#[tactic(auto, unfolding(crate::specs::Words::word_of))]
 pub fn read_word(token: &[u8]) -> Word
     ensures { result ≡ word_of token.now }
 {
-    let rest = or_word(token, b"rows", Word::Rows, table_word(token));
-    let rest = or_word(
-        token,
-        b"output-states",
-        Word::Size(Size::OutputStates),
-        rest,
-    );
-    let rest = or_word(token, b"input-states", Word::Size(Size::InputStates), rest);
-    let rest = or_word(token, b"symbols", Word::Size(Size::Symbols), rest);
-    or_word(token, b"case", Word::Case, rest)
+    if same(token, b"case") {
+        return Word::Case;
+    }
+    if same(token, b"symbols") {
+        return Word::Size(Size::Symbols);
+    }
+    if same(token, b"input-states") {
+        return Word::Size(Size::InputStates);
+    }
+    if same(token, b"output-states") {
+        return Word::Size(Size::OutputStates);
+    }
+    if same(token, b"rows") {
+        return Word::Rows;
+    }
+    table_word(token)
 }

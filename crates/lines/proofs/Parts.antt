@@ -1,15 +1,13 @@
--- Parts of a list, and its line feeds.
+-- Parts of a list.
 use mathlib.Core.Path.{◌≡◌, refl, ap, sym, ◌∙◌}
 use mathlib.Core.Bool.{Bool, true, false}
-use mathlib.Core.List.{List, [], ◌∷◌}
+use mathlib.Core.List.{List}
 use Prim.Native.Nat.{ℕ, ◌-◌, ◌≤◌, ◌<◌, min}
 use native.Mathlib.Omega.{arith}
 use lib.Dec.{leb}
 use borrow.Author.Tests.{leb-true, leb-false}
 use lib.ListN.{length, take, drop, length-drop}
 use Rattle.foundation.specs.Lists.{take_clipped}
-use Rattle.lexing.specs.Text.{newlines}
-use Rattle.lexing.proofs.Scans.{line_feed_small}
 
 -- a stretch that begins within a list
 pub part_clipped : (l : List ℕ) (from to start end : ℕ) → from < length l → end ≡ min to (length l) → start ≡ min from end
@@ -26,9 +24,3 @@ part_clipped l from to start end h e s = go (leb from to) refl
         let k : to < from = leb-false _ _ t in
         ap (λ (m : ℕ). take m (drop from l)) (let z : to - from ≡ 0 = omega arith in z)
         ∙ sym (ap (λ (m : ℕ). take m (drop start l)) (let z : end - start ≡ 0 = omega arith in z))
-
--- there are no more line feeds than bytes
-pub newlines_most : (l : List ℕ) → newlines l ≤ length l
-unfolding newlines
-newlines_most [] = omega arith
-newlines_most (b ∷ l) = omega (arith, line_feed_small b, newlines_most l)

@@ -1,4 +1,4 @@
-// The text of answers, put behind text in a lent buffer: lists of numbers, the answers of the five operations, the line of
+// The text of answers, put on a page: lists of numbers, the answers of the five operations, the line of
 // a script's fault, and the help text. What each text is, crate `script` says in its specs/.
 #![tactic(auto)]
 

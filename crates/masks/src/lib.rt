@@ -5,25 +5,33 @@
 ghost use Rattle.std.specs.Prelude.{◌≡◌, ◌+◌, ◌*◌, ◌<◌, ◌≤◌, length};
 ghost use Rattle.foundation.specs.Tests.{choose};
 ghost use Rattle.tables.specs.Tuples.{input_row_of, node_of};
-ghost use Rattle.kind_words.specs.Sizes.{most_symbols, rule_symbols};
-ghost use Rattle.kind_words.specs.Fits.{RowsIn};
-ghost use Rattle.prepared.specs.Parts.{contract_in, lists_in, Ready};
+ghost use Rattle.kind_words.specs.Sizes.{rule_symbols};
+ghost use Rattle.prepared.specs.Contract.{contract_of, lists_of};
 ghost use Rattle.classes.specs.Masks.{mask_words, mask_in, Covered};
-ghost use Rattle.masks.specs.Seen.{state_on, state_bit, states_seen, marks_seen, stored, Sees, AllSee};
-ghost use Rattle.masks.specs.Calls.{ones_for, with_call, CallFits, CallsFit, facts_called, facts_seen};
+ghost use Rattle.masks.specs.Seen.{state_on, state_bit, states_seen, marks_seen, stored, Sees, AllSee, covered-prop};
+ghost use Rattle.masks.specs.Calls.{ones_for, with_call, CallFits, facts_seen};
 
 use blocks::{lane_of_ones, no_facts, put_block};
 use chains::{first_row, row_after};
-use lanes::{PROCEDURES, SYMBOLS, place, place_at, up, wide};
+use lanes::{SYMBOLS, entry_of, up};
 use numbering::facts_of;
-use prepared::{Prepared, counts_in, list_in, lists_in, nexts_in, nodes_in, rows_in};
+use prepared::Prepared;
 use root_marks::empty_mark;
-use tables::{InputRow, InputState, Node, Procedure, Symbol, input_row_at, node_at};
+use tables::{InputRow, InputState, Node, Numbered, Procedure, Symbol, input_row_at, node_at};
 
 // How many words a mask has, and the masks of all symbols.
 const MASK_WORDS: usize = 5;
 
 pub const MASKS: usize = MASK_WORDS * SYMBOLS;
+
+// A prepared contract with the masks of its symbols on both sides.
+#[derive(Clone, Copy)]
+pub struct Masked<'a> {
+    pub prepared: Prepared<'a>,
+    pub left_masks: [u64; MASKS],
+    pub right_masks: [u64; MASKS],
+    pub ghost covered: { Covered (contract_of prepared) left_masks right_masks } by { covered-prop (contract_of prepared) left_masks right_masks },
+}
 
 // The state that an input row names on a side.
 fn state_on(row: InputRow, on_right: bool) -> InputState
@@ -36,45 +44,35 @@ fn state_on(row: InputRow, on_right: bool) -> InputState
 }
 
 // That state as a single bit.
+#[tactic(auto, unfolding(crate::specs::Seen::state_bit))]
 fn state_bit(row: InputRow, on_right: bool) -> u64
     requires { state_on on_right (input_row_of row) < 64 }
     ensures { result ≡ state_bit (input_row_of row) row.symbol.0 on_right }
 {
     let state = state_on(row, on_right);
-    up(1, wide(state.0))
+    up(1, u64::from(state.0))
 }
 
-// The states that the symbol's input rows name on a side: the rows in the symbol's chain.
-fn states_named(lists: &[u16], rows: &[u16], nexts: usize, symbol: Symbol, on_right: bool) -> u64
-    requires { RowsIn rows.now lists.now nexts × (symbol.0 < rule_symbols) }
-    ensures { result ≡ states_seen rows.now symbol.0 on_right }
+// The states that the symbol's input rows name on a side. The next row is read from the chain, which a range can't follow.
+fn states_seen(prepared: &Prepared, symbol: Symbol, on_right: bool) -> u64
+    requires { symbol.0 < rule_symbols }
+    ensures { result ≡ states_seen (contract_of prepared.now).input.rows symbol.0 on_right }
 {
+    let lists = prepared.lists();
+    let rows = prepared.rows();
+    let nexts = prepared.nexts();
     let count = rows.len() / 4;
     let mut word: u64 = 0;
     let mut k = first_row(lists, symbol);
     while k < count {
-        let row = input_row_at(rows, k);
-        word = word | state_bit(row, on_right);
+        word |= state_bit(input_row_at(rows, k), on_right);
         k = row_after(lists, nexts, k);
     }
     word
 }
 
-// The states that a symbol can see on a side.
-fn states_seen(prepared: Prepared, table: &[u16], symbol: Symbol, on_right: bool) -> u64
-    requires { Ready prepared table.now × (symbol.0 < rule_symbols) }
-    ensures { result ≡ states_seen (contract_in prepared table.now).input.rows symbol.0 on_right }
-{
-    states_named(
-        lists_in(prepared, table),
-        rows_in(prepared, table),
-        nexts_in(prepared, table),
-        symbol,
-        on_right,
-    )
-}
-
 // The marks that a symbol can see on a side.
+#[tactic(auto, unfolding(crate::specs::Seen::marks_seen))]
 fn marks_seen(on_right: bool) -> u64
     ensures { result ≡ marks_seen on_right }
 {
@@ -85,6 +83,7 @@ fn marks_seen(on_right: bool) -> u64
 }
 
 // As many ones as a procedure of that many parameters has facts.
+#[tactic(auto, using(crate::specs::Calls::ones_double, crate::specs::Calls::ones_room, crate::specs::Calls::facts_between))]
 fn ones_for(output_states: usize, count: u16) -> u64
     requires { (1 ≤ output_states) × (output_states ≤ 4) × (count ≤ 2) }
     ensures { result ≡ ones_for output_states count }
@@ -104,72 +103,40 @@ fn side_number(on_right: bool) -> u16
 }
 
 // A mask with the facts that a node calls on a side.
-fn put_call(
-    output_states: usize,
-    counts: &[u16],
-    offsets: &[u16; PROCEDURES],
-    on_right: bool,
-    node: Node,
-    mask: &mut [u64; 6],
-)
-    requires { CallFits output_states counts.now offsets.now (node_of node) }
-    ensures { mask.new ≡ with_call output_states counts.now offsets.now on_right (node_of node) mask.old }
+#[tactic(auto, unfolding(crate::specs::Calls::with_call))]
+fn put_call(prepared: &Prepared, on_right: bool, node: Node, mask: &mut [u64; 6])
+    requires { CallFits (contract_of prepared.now).output.states (contract_of prepared.now).transformation.counts prepared.now.parts.offsets (node_of node) }
+    ensures { mask.new ≡ with_call (contract_of prepared.now).output.states (contract_of prepared.now).transformation.counts prepared.now.parts.offsets on_right (node_of node) mask.old }
 {
     let side = side_number(on_right);
     if (node.tag == 2) & (node.child == side) {
-        let procedure = Procedure(node.name);
-        let p = place(procedure.0);
-        let ones = ones_for(output_states, counts[p]);
-        put_block(mask, ones, place(offsets[p]));
+        let p = Procedure(node.name).number();
+        let ones = ones_for(prepared.parts.layout.states, prepared.counts()[p]);
+        put_block(mask, ones, usize::from(prepared.parts.offsets[p]));
     }
 }
 
-// The facts that the nodes on a list call on a side.
-fn facts_called(
-    output_states: usize,
-    counts: &[u16],
-    offsets: &[u16; PROCEDURES],
-    nodes: &[u16],
-    list: &[u16],
-    on_right: bool,
-) -> [u64; 6]
-    requires { CallsFit output_states counts.now offsets.now nodes.now list.now }
-    ensures { result ≡ facts_called output_states counts.now offsets.now nodes.now list.now on_right }
+// The facts that a symbol can see on a side: those that the nodes on its list call there.
+fn facts_seen(prepared: &Prepared, symbol: Symbol, on_right: bool) -> [u64; 6]
+    requires { symbol.0 < rule_symbols }
+    ensures { result ≡ facts_seen (contract_of prepared.now) prepared.now.parts.offsets (lists_of prepared.now) symbol.0 on_right }
 {
+    let nodes = prepared.nodes();
     let mut mask = no_facts();
-    let mut i: usize = 0;
-    while i < list.len() {
-        let node = node_at(nodes, place_at(list, i));
-        put_call(output_states, counts, offsets, on_right, node, &mut mask);
-        i += 1;
+    for &n in prepared.list(symbol) {
+        let node = node_at(nodes, usize::from(n));
+        put_call(prepared, on_right, node, &mut mask);
     }
     mask
 }
 
-// The facts that a symbol can see on a side.
-fn facts_seen(prepared: Prepared, table: &[u16], symbol: Symbol, on_right: bool) -> [u64; 6]
-    requires { Ready prepared table.now × (symbol.0 < rule_symbols) }
-    ensures { result ≡ facts_seen (contract_in prepared table.now) prepared.offsets (lists_in prepared table.now) symbol.0 on_right }
-{
-    let layout = prepared.layout;
-    let offsets = prepared.offsets;
-    facts_called(
-        layout.states,
-        counts_in(prepared, table),
-        &offsets,
-        nodes_in(prepared, table),
-        list_in(prepared, table, symbol),
-        on_right,
-    )
-}
-
 // What a symbol can see on a side.
-fn mask_of(prepared: Prepared, table: &[u16], symbol: Symbol, on_right: bool) -> [u64; 6]
-    requires { Ready prepared table.now × (symbol.0 < rule_symbols) }
-    ensures { Sees (contract_in prepared table.now) symbol.0 on_right (mask_in result 0) }
+fn mask_of(prepared: &Prepared, symbol: Symbol, on_right: bool) -> [u64; 6]
+    requires { symbol.0 < rule_symbols }
+    ensures { Sees (contract_of prepared.now) symbol.0 on_right (mask_in result 0) }
 {
-    let mut mask = facts_seen(prepared, table, symbol, on_right);
-    mask[0] = states_seen(prepared, table, symbol, on_right) | marks_seen(on_right);
+    let mut mask = facts_seen(prepared, symbol, on_right);
+    mask[0] = states_seen(prepared, symbol, on_right) | marks_seen(on_right);
     mask
 }
 
@@ -178,38 +145,31 @@ fn store_mask(masks: &mut [u64], symbol: Symbol, mask: &[u64; 6])
     requires { mask_words * symbol.0 + mask_words ≤ length masks.old }
     ensures { masks.new ≡ stored masks.old symbol.0 mask.now }
 {
-    let start = MASK_WORDS * place(symbol.0);
-    let mut i: usize = 0;
-    while i < MASK_WORDS {
-        masks[start + i] = mask[i];
-        i += 1;
-    }
+    let start = MASK_WORDS * symbol.number();
+    masks[start..start + MASK_WORDS].copy_from_slice(&mask[..MASK_WORDS]);
 }
 
 // The masks of all symbols on a side.
-fn side_masks(prepared: Prepared, table: &[u16], on_right: bool, masks: &mut [u64])
-    requires { Ready prepared table.now × (most_symbols * mask_words ≤ length masks.old) }
-    ensures { AllSee (contract_in prepared table.now) on_right prepared.symbols masks.new }
+fn side_masks(prepared: &Prepared, on_right: bool) -> [u64; MASKS]
+    ensures { AllSee (contract_of prepared.now) on_right prepared.now.parts.symbols result }
 {
-    let symbols = prepared.symbols;
-    let mut s: u16 = 1;
-    while place(s) < symbols {
-        let mask = mask_of(prepared, table, Symbol(s), on_right);
-        store_mask(masks, Symbol(s), &mask);
-        s += 1;
+    let mut masks = [0u64; MASKS];
+    for s in 1..prepared.parts.symbols {
+        let symbol = Symbol(entry_of(s));
+        let mask = mask_of(prepared, symbol, on_right);
+        store_mask(&mut masks, symbol, &mask);
     }
+    masks
 }
 
-// The masks of all symbols on both sides.
-pub fn masks_of(
-    prepared: Prepared,
-    table: &[u16],
-    left: &mut [u64; MASKS],
-    right: &mut [u64; MASKS],
-)
-    requires { Ready prepared table.now }
-    ensures { Covered (contract_in prepared table.now) left.new right.new }
+// A prepared contract with its masks.
+#[tactic(auto, using(crate::specs::Seen::covered))]
+pub fn with_masks<'a>(prepared: Prepared<'a>) -> Masked<'a>
+    ensures { contract_of result.prepared ≡ contract_of prepared.entry }
 {
-    side_masks(prepared, table, false, left);
-    side_masks(prepared, table, true, right);
+    Masked {
+        prepared,
+        left_masks: side_masks(&prepared, false),
+        right_masks: side_masks(&prepared, true),
+    }
 }

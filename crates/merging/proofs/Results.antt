@@ -14,7 +14,8 @@ use Rattle.model.proofs.Laws.Answers.{then_assoc, then_fine, then_passed, then_r
 use Rattle.model.proofs.Laws.Merging.{merging_refused, merging_fine, table_alone, marks_alone}
 use Rattle.model.proofs.Meaning.Merging.{GoodType, faultless_good, type_fine}
 use Rattle.model.proofs.Meaning.MergingAnswers.{fine_mergeable}
-use Rattle.merging_tests.specs.Answers.{types_verdict, result_verdict}
+use Rattle.merging_tests.specs.declared.OutputType as code
+use Rattle.merging_tests.specs.Answers.{type_handed, types_verdict, result_verdict}
 use Rattle.merging_pairs.specs.Types.{table_only, marks_only, Few}
 use Rattle.merging.specs.Answers.{Merges}
 
@@ -26,6 +27,18 @@ pub record Handed : Type 0 where
   pub second : OutputType
   pub table_buffer : List ℕ
   pub marks_buffer : List ℕ
+
+-- the types and the buffers that the code is handed
+abbrev pub handed : (first second : code.OutputType) (table_buffer marks_buffer : List ℕ) → Handed
+handed first second table_buffer marks_buffer =
+    record {
+      symbols = first.symbols;
+      first = type_handed first;
+      second_symbols = second.symbols;
+      second = type_handed second;
+      table_buffer = table_buffer;
+      marks_buffer = marks_buffer;
+    }
 
 module _ (h : Handed) where
   abbrev S : ℕ

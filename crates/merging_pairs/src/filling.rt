@@ -37,7 +37,6 @@ fn place_of(states: usize, c: usize) -> Place
 
 // Entry k of the merged table.
 fn entry_of(states: States, first: &[u16], second: &[u16], k: usize) -> OutputState
-    requires few { Few states.first states.second }
     requires below { Below states.first first.now × Below states.second second.now × (k ≤ 256) }
     ensures { result.0 ≡ pair_entry (table_only states.first first.now) (table_only states.second second.now) k }
 {
@@ -55,33 +54,27 @@ fn entry_of(states: States, first: &[u16], second: &[u16], k: usize) -> OutputSt
 
 // Writes the merged table.
 pub fn fill_table(symbols: usize, states: States, first: &[u16], second: &[u16], merged: &mut [u16])
-    requires few { Few states.first states.second × (1 ≤ symbols) × (symbols ≤ 16) }
+    requires symbols { (1 ≤ symbols) × (symbols ≤ 16) }
     requires below { Below states.first first.now × Below states.second second.now }
     requires second_in_bounds { table_length symbols (states.first * states.second) ≤ length merged.old }
     ensures { merged.new ≡ (merged_type symbols (table_only states.first first.now) (table_only states.second second.now)).table
         ++ drop (table_length symbols (states.first * states.second)) merged.old }
 {
     let n = table_length(symbols, states.first * states.second);
-    let mut k = 0;
-    while k < n {
+    for k in 0..n {
         merged[k] = entry_of(states, first, second, k).0;
-        k += 1;
     }
 }
 
 // Writes the merged marks; they do not depend on the symbols, so the promise says 1.
 pub fn fill_marks(states: States, first: &[u16], second: &[u16], merged: &mut [u16])
-    requires few { Few states.first states.second }
     requires marks { Marks first.now × Marks second.now }
     requires second_in_bounds { states.first * states.second ≤ length merged.old }
     ensures { merged.new ≡ (merged_type 1 (marks_only states.first first.now) (marks_only states.second second.now)).marks
         ++ drop (states.first * states.second) merged.old }
 {
     let n = states.first * states.second;
-    let mut q = 0;
-    while q < n {
-        let state = OutputState(q as u16);
-        merged[q] = mark_of(states, first, second, state);
-        q += 1;
+    for q in 0..n {
+        merged[q] = mark_of(states, first, second, OutputState(q as u16));
     }
 }

@@ -1,5 +1,5 @@
 -- Tests of two types and of the buffers, by the laws of the model: what each refusal says, and what is known behind the tests that passed.
-use mathlib.Core.Path.{◌≡◌, ap, ◌∙◌}
+use mathlib.Core.Path.{◌≡◌, refl, sym, ap, ◌∙◌}
 use mathlib.Core.Bool.{false, not}
 use mathlib.Core.List.{[]}
 use Prim.Native.Nat.{ℕ, ◌+◌, ◌<◌, ◌≤◌}
@@ -7,15 +7,22 @@ use native.Mathlib.Omega.{arith}
 use borrow.Author.Tests.{lt-ltb, le-ltb, eq-eqb, ne_eqb}
 use lib.Dec.{eqb, ltb}
 use lib.ListN.{length}
-use Rattle.foundation.specs.Search.{first}
+use Rattle.std.specs.Prelude.{Some, None, Result, Ok, Err, MatchResult}
+use Rattle.std.specs.Result.{IsErrAnd}
+use Rattle.std.proofs.lemmas.Result.{err_from_is_err_and}
+use Rattle.foundation.specs.Search.{first_below}
 use Rattle.model.specs.Tables.{OutputType}
-use Rattle.model.specs.Answers.{fine, refused, refuse_if}
+use Rattle.model.specs.Answers.{Verdict, fine, refused, refuse_if, ◌then◌}
 use Rattle.model.specs.Admission.{outside, table_length, entry_wrong}
 use Rattle.model.proofs.Laws.Answers.{then_passed, then_refused, refuse_if_passed, refuse_if_refused}
 use Rattle.model.proofs.Laws.Tests.{inside}
-use Rattle.model.proofs.Laws.Merging.{Shaped, table_short, marks_short, buffers_fit}
+use Rattle.model.proofs.Laws.Merging.{Shaped, entry_fault, no_fault, table_short, marks_short, buffers_fit}
+use Rattle.model.specs.Merging.{type_verdict}
 use Rattle.admission_tables.proofs.Bounds.{table_bounds}
-use Rattle.merging_tests.specs.Answers.{result_verdict}
+use Rattle.admission_tables.proofs.Found.{found_at, none_found}
+use Rattle.merging_tests.specs.declared.MergingFault.{MergingFault}
+use Rattle.merging_tests.specs.declared.MergingFault.TheVariants as fault
+use Rattle.merging_tests.specs.Answers.{fault_number, fault_place, type_test_verdict, TellsType, test_verdict, result_verdict}
 
 -- sizes that are not outside their ranges
 pub in_range : (S O : ℕ) → outside 1 16 S ≡ false → outside 1 4 O ≡ false → (1 ≤ S) × (S ≤ 16) × (O ≤ 4)
@@ -28,12 +35,51 @@ few_entries S Y s =
     omega (arith, table_bounds S Y.states most few, s.table_long, s.marks_long)
 
 -- a search through nothing, then table and marks
-pub behind_nothing : (Y : OutputType) (k : ℕ)
-    → k ≡ first (entry_wrong Y.states [] Y.table Y.marks) (0 + length Y.table + length Y.marks)
-    → k ≡ first (entry_wrong Y.states [] Y.table Y.marks) (length Y.table + length Y.marks)
-behind_nothing Y k e =
-    let same : 0 + length Y.table + length Y.marks ≡ length Y.table + length Y.marks = omega arith in
-    e ∙ ap (first (entry_wrong Y.states [] Y.table Y.marks)) same
+module _ (S : ℕ) (Y : OutputType) (shaped : Shaped S Y) (number : ℕ) where
+  behind_nothing : 0 + length Y.table + length Y.marks ≡ length Y.table + length Y.marks
+  behind_nothing = omega arith
+
+  pub bad_entry : (k : ℕ) → Some k ≡ first_below (entry_wrong Y.states [] Y.table Y.marks) (0 + length Y.table + length Y.marks)
+      → refused number (4 + k) ≡ type_verdict number S Y
+  bad_entry k e =
+      let at = found_at (entry_wrong Y.states [] Y.table Y.marks) (length Y.table + length Y.marks) k (rw behind_nothing at e) in
+      sym (entry_fault S Y number shaped k at.is_first at.inside)
+
+  pub no_bad_entry : None ≡ first_below (entry_wrong Y.states [] Y.table Y.marks) (0 + length Y.table + length Y.marks)
+      → fine ≡ type_verdict number S Y
+  no_bad_entry e =
+      sym (no_fault S Y number shaped _ refl (none_found (entry_wrong Y.states [] Y.table Y.marks) (length Y.table + length Y.marks) (rw behind_nothing at e)))
+
+-- a type's test that failed, with the place told as one of either type
+told : (number : ℕ) (tell : ℕ → MergingFault) → ((place : ℕ) → test_verdict (Err (tell place)) ≡ refused number place)
+    → (test : Result Unit ℕ) (m : Result Unit MergingFault)
+    → MatchResult test (λ x. m ≡ Ok x) (λ place. IsErrAnd m (λ f. f ≡ tell place))
+    → test_verdict m ≡ type_test_verdict number test
+told number tell says (Ok x) m e = ap test_verdict e
+told number tell says (Err place) m e =
+    let p = err_from_is_err_and m e in
+    ap test_verdict (p.1 ∙ ap Err p.2) ∙ says place
+
+pub told_as_first : (test : Result Unit ℕ) (m : Result Unit MergingFault) (S : ℕ) (Y : OutputType)
+    → MatchResult test (λ x. m ≡ Ok x) (λ place. IsErrAnd m (λ f. f ≡ fault.First place))
+    → TellsType test S Y
+    → test_verdict m ≡ type_verdict 51 S Y
+told_as_first test m S Y e t = told 51 (λ place. fault.First place) (λ place. refl) test m e ∙ t 51
+
+pub told_as_second : (test : Result Unit ℕ) (m : Result Unit MergingFault) (S : ℕ) (Y : OutputType)
+    → MatchResult test (λ x. m ≡ Ok x) (λ place. IsErrAnd m (λ f. f ≡ fault.Second place))
+    → TellsType test S Y
+    → test_verdict m ≡ type_verdict 52 S Y
+told_as_second test m S Y e t = told 52 (λ place. fault.Second place) (λ place. refl) test m e ∙ t 52
+
+-- a test that failed gives what is told, whatever comes after; one that passed refuses nothing
+pub told_first : (test : Result Unit MergingFault) (f : MergingFault) (v w : Verdict) → test ≡ Err f → test_verdict test ≡ v
+    → test_verdict (Err f) ≡ (v then w)
+told_first test f v w is e =
+    sym (then_refused v w (fault_number f) (fault_place f) (sym e ∙ ap test_verdict is))
+
+pub passed : (test : Result Unit MergingFault) (v : Verdict) → test ≡ Ok tt → test_verdict test ≡ v → v ≡ fine
+passed test v is e = sym e ∙ ap test_verdict is
 
 -- the symbol counts
 pub same_symbols : (S S' : ℕ) → S ≡ S' → refuse_if (not (eqb S S')) 50 S' ≡ fine

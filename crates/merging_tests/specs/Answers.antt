@@ -1,14 +1,16 @@
 -- The numbers, places and verdicts of the model that the code's tests stand for, and the two parts of what is refused.
-use Rattle.std.specs.Prelude.{◌≡◌, not, ℕ, eqb, ltb}
-use Rattle.model.specs.Tables.{OutputType}
+use Rattle.std.specs.Prelude.{◌≡◌, not, ℕ, Result, Ok, Err, eqb, ltb}
+use Rattle.model.specs.Tables as model
+use Rattle.model.specs.Tables.{type_of}
 use Rattle.model.specs.Answers.{Verdict, fine, refused, refuse_if, refuse_first, ◌then◌}
 use Rattle.model.specs.Merging.{type_verdict, buffer_short}
+use Rattle.merging_tests.specs.declared.OutputType.{OutputType}
 use Rattle.merging_tests.specs.declared.MergingFault.{MergingFault}
 use Rattle.merging_tests.specs.declared.MergingFault.TheVariants as fault
-use Rattle.merging_tests.specs.declared.TypeTest.{TypeTest}
-use Rattle.merging_tests.specs.declared.TypeTest.TheVariants as type-test
-use Rattle.merging_tests.specs.declared.Test.{Test}
-use Rattle.merging_tests.specs.declared.Test.TheVariants as test
+
+-- the output type that is handed in, which has no symbol count
+abbrev pub type_handed : OutputType → model.OutputType
+type_handed t = type_of t.states t.table.now t.marks.now
 
 -- a fault's number and place
 abbrev pub fault_number : MergingFault → ℕ
@@ -27,20 +29,21 @@ fault_place (fault.States count) = count
 fault_place fault.Table = 0
 fault_place fault.Marks = 1
 
-abbrev pub type_test_verdict : (number : ℕ) → TypeTest → Verdict
-type_test_verdict number type-test.Good = fine
-type_test_verdict number (type-test.Wrong place) = refused number place
+-- what is refused of a type, by a test that tells the place of its fault
+abbrev pub type_test_verdict : (number : ℕ) → Result Unit ℕ → Verdict
+type_test_verdict number (Ok _) = fine
+type_test_verdict number (Err place) = refused number place
 
 -- a test of a type tells its fault, by whichever number
-abbrev pub TellsType : TypeTest → (S : ℕ) → OutputType → Type 0
+abbrev pub TellsType : Result Unit ℕ → (S : ℕ) → model.OutputType → Type 0
 TellsType t S Y = (number : ℕ) → type_test_verdict number t ≡ type_verdict number S Y
 
-abbrev pub test_verdict : Test → Verdict
-test_verdict test.Passed = fine
-test_verdict (test.Failed f) = refused (fault_number f) (fault_place f)
+abbrev pub test_verdict : Result Unit MergingFault → Verdict
+test_verdict (Ok _) = fine
+test_verdict (Err f) = refused (fault_number f) (fault_place f)
 
 -- what is refused of the two types and their symbols
-abbrev pub types_verdict : (S : ℕ) (Y : OutputType) (S' : ℕ) (Z : OutputType) → Verdict
+abbrev pub types_verdict : (S : ℕ) (Y : model.OutputType) (S' : ℕ) (Z : model.OutputType) → Verdict
 types_verdict S Y S' Z = type_verdict 51 S Y then type_verdict 52 S' Z then refuse_if (not (eqb S S')) 50 S'
 
 -- what is refused of a merged type of so many states, and of the buffers for it

@@ -2,16 +2,26 @@
 // short; and the number and place of each.
 #![tactic(auto)]
 
-ghost use Rattle.std.specs.Prelude.{◌≡◌, not, ◌≤◌, eqb};
-ghost use Rattle.model.specs.Answers.{refuse_if, ◌then◌};
-ghost use Rattle.model.specs.Tables.{type_of};
-ghost use Rattle.merging_tests.specs.Answers.{fault_number, fault_place, type_test_verdict, TellsType, test_verdict, types_verdict, result_verdict};
+ghost use Rattle.std.specs.Prelude.{◌≡◌, ◌≤◌};
+ghost use Rattle.model.specs.Answers as model;
+ghost use Rattle.answers.specs.Numbers.{refusal_of};
+ghost use Rattle.merging_tests.specs.Answers.{type_handed, fault_number, fault_place, TellsType, test_verdict, types_verdict, result_verdict};
 
 use admission_tables::entries::first_bad_entry;
 use admission_tables::sizes::{is_outside, table_length};
+use answers::numbered::Refusal;
+
+// An output type as it is handed in, over so many symbols: nothing of it is tested yet.
+#[derive(Clone, Copy)]
+pub struct OutputType<'a> {
+    pub symbols: usize,
+    pub states: usize,
+    pub table: &'a [u16],
+    pub marks: &'a [u16],
+}
 
 // Why two types are not merged.
-#[derive(Clone, Copy)]
+#[derive(Clone, Copy, Debug, PartialEq, Eq)]
 pub enum MergingFault {
     // The place of the first type's fault.
     First(usize),
@@ -27,146 +37,76 @@ pub enum MergingFault {
     Marks,
 }
 
-// A fault's number.
-pub fn fault_number(fault: MergingFault) -> usize
-    ensures { result ≡ fault_number fault }
+impl From<MergingFault> for Refusal {
+    ghost from_gives = { λ fault refusal. refusal_of refusal ≡ model.refusal (fault_number fault) (fault_place fault) };
+
+    fn from(fault: MergingFault) -> Refusal {
+        let (number, place) = match fault {
+            MergingFault::First(place) => (51, place),
+            MergingFault::Second(place) => (52, place),
+            MergingFault::Symbols(count) => (50, count),
+            MergingFault::States(count) => (53, count),
+            MergingFault::Table => (56, 0),
+            MergingFault::Marks => (56, 1),
+        };
+        Refusal { number, place }
+    }
+}
+
+// Tests an output type: symbol count, state count, table length, marks length, then table and marks. An error is the lowest place of a
+// fault.
+fn test_type(tested: &OutputType) -> Result<(), usize>
+    ensures { TellsType result tested.now.symbols (type_handed tested.now) }
 {
-    match fault {
-        MergingFault::First(_) => 51,
-        MergingFault::Second(_) => 52,
-        MergingFault::Symbols(_) => 50,
-        MergingFault::States(_) => 53,
-        MergingFault::Table => 56,
-        MergingFault::Marks => 56,
+    if is_outside(1, 16, tested.symbols) {
+        return Err(0);
     }
-}
-
-// A fault's place.
-pub fn fault_place(fault: MergingFault) -> usize
-    ensures { result ≡ fault_place fault }
-{
-    match fault {
-        MergingFault::First(place) => place,
-        MergingFault::Second(place) => place,
-        MergingFault::Symbols(count) => count,
-        MergingFault::States(count) => count,
-        MergingFault::Table => 0,
-        MergingFault::Marks => 1,
+    if is_outside(1, 4, tested.states) {
+        return Err(1);
     }
-}
-
-// Whether an output type has a fault, and the lowest place of one.
-#[derive(Clone, Copy)]
-pub enum TypeTest {
-    Good,
-    Wrong(usize),
-}
-
-// Whether something is wrong, and what.
-#[derive(Clone, Copy)]
-pub enum Test {
-    Passed,
-    Failed(MergingFault),
-}
-
-// Tests an output type: symbol count, state count, table length, marks length, then table and marks.
-fn test_type(symbols: usize, states: usize, table: &[u16], marks: &[u16]) -> TypeTest
-    ensures { TellsType result symbols (type_of states table.now marks.now) }
-{
-    if is_outside(1, 16, symbols) {
-        return TypeTest::Wrong(0);
+    if tested.table.len() != table_length(tested.symbols, tested.states) {
+        return Err(2);
     }
-    if is_outside(1, 4, states) {
-        return TypeTest::Wrong(1);
-    }
-    if table.len() != table_length(symbols, states) {
-        return TypeTest::Wrong(2);
-    }
-    if marks.len() != states {
-        return TypeTest::Wrong(3);
+    if tested.marks.len() != tested.states {
+        return Err(3);
     }
     // No input marks stand before them.
-    let entry = first_bad_entry(states, &table[..0], table, marks);
-    if entry < table.len() + marks.len() {
-        let place = 4 + entry;
-        return TypeTest::Wrong(place);
+    if let Some(entry) = first_bad_entry(tested.states, &[], tested.table, tested.marks) {
+        return Err(4 + entry);
     }
-    TypeTest::Good
+    Ok(())
 }
 
-// What is told of the first type's test.
-fn test_first(test: TypeTest) -> Test
-    ensures { test_verdict result ≡ type_test_verdict 51 test }
+// Tests the first type, then the second, then whether they are over the same number of symbols.
+pub fn test_types(first: &OutputType, second: &OutputType) -> Result<(), MergingFault>
+    ensures { test_verdict result ≡ types_verdict first.now.symbols (type_handed first.now) second.now.symbols (type_handed second.now) }
 {
-    match test {
-        TypeTest::Good => Test::Passed,
-        TypeTest::Wrong(place) => Test::Failed(MergingFault::First(place)),
+    test_type(first).map_err(MergingFault::First)?;
+    test_type(second).map_err(MergingFault::Second)?;
+    if first.symbols != second.symbols {
+        return Err(MergingFault::Symbols(second.symbols));
     }
-}
-
-// What is told of the second type's test.
-fn test_second(test: TypeTest) -> Test
-    ensures { test_verdict result ≡ type_test_verdict 52 test }
-{
-    match test {
-        TypeTest::Good => Test::Passed,
-        TypeTest::Wrong(place) => Test::Failed(MergingFault::Second(place)),
-    }
-}
-
-// Whether both types are over the same number of symbols.
-fn test_symbols(symbols: usize, second_symbols: usize) -> Test
-    ensures { test_verdict result ≡ refuse_if (not (eqb symbols second_symbols)) 50 second_symbols }
-{
-    if symbols == second_symbols {
-        return Test::Passed;
-    }
-    Test::Failed(MergingFault::Symbols(second_symbols))
-}
-
-// The first of two tests that failed.
-fn first_failed(one: Test, two: Test) -> Test
-    ensures { test_verdict result ≡ (test_verdict one then test_verdict two) }
-{
-    match one {
-        Test::Passed => two,
-        Test::Failed(fault) => Test::Failed(fault),
-    }
-}
-
-// Tests the first type, then the second, then their symbol counts.
-pub fn test_types(
-    symbols: usize,
-    states: usize,
-    table: &[u16],
-    marks: &[u16],
-    second_symbols: usize,
-    second_states: usize,
-    second_table: &[u16],
-    second_marks: &[u16],
-) -> Test
-    ensures { test_verdict result ≡ types_verdict symbols (type_of states table.now marks.now)
-        second_symbols (type_of second_states second_table.now second_marks.now) }
-{
-    let first = test_first(test_type(symbols, states, table, marks));
-    let second = test_second(test_type(second_symbols, second_states, second_table, second_marks));
-    let counts = test_symbols(symbols, second_symbols);
-    first_failed(first, first_failed(second, counts))
+    Ok(())
 }
 
 // Tests how many states the merged type has, then whether its table and its marks fit into their buffers.
-pub fn test_result(symbols: usize, states: usize, table_room: usize, marks_room: usize) -> Test
+pub fn test_result(
+    symbols: usize,
+    states: usize,
+    table_room: usize,
+    marks_room: usize,
+) -> Result<(), MergingFault>
     requires { (1 ≤ symbols) × (symbols ≤ 16) }
     ensures { test_verdict result ≡ result_verdict symbols states table_room marks_room }
 {
     if 4 < states {
-        return Test::Failed(MergingFault::States(states));
+        return Err(MergingFault::States(states));
     }
     if table_room < table_length(symbols, states) {
-        return Test::Failed(MergingFault::Table);
+        return Err(MergingFault::Table);
     }
     if marks_room < states {
-        return Test::Failed(MergingFault::Marks);
+        return Err(MergingFault::Marks);
     }
-    Test::Passed
+    Ok(())
 }

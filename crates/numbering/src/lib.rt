@@ -6,9 +6,10 @@ ghost use Rattle.model.specs.Facts.{offset, fact_total};
 ghost use Rattle.numbering.specs.Counts.{SmallCounts};
 ghost use Rattle.numbering.specs.Powers.{AllPowers};
 
-use tables::Procedure;
+use tables::{Numbered, Procedure};
 
 // The table of the powers of O, the number of output states: for each O from 1 to 4, O to the powers 1, 2 and 3.
+// It stays a table and is no `pow`: document 01 names it, with one test over all twelve entries.
 fn powers() -> [u8; 12]
     ensures { AllPowers result }
 {
@@ -34,7 +35,7 @@ pub fn power(states: usize, exponent: usize) -> usize
     ensures { result ≡ states ^ exponent }
 {
     let table = powers();
-    table[(states - 1) * 3 + (exponent - 1)] as usize
+    usize::from(table[(states - 1) * 3 + (exponent - 1)])
 }
 
 // How many facts a procedure of `count` parameters has.
@@ -42,37 +43,28 @@ pub fn facts_of(states: usize, count: u16) -> usize
     requires { (1 ≤ states) × (states ≤ 4) × (count ≤ 2) }
     ensures { result ≡ states ^ suc count }
 {
-    power(states, (count as usize) + 1)
+    power(states, usize::from(count) + 1)
 }
 
-// How many facts the first `n` procedures have.
-fn facts_before(states: usize, counts: &[u16], n: usize) -> usize
-    requires small_counts { SmallCounts states counts.now }
-    requires n_in_bounds { n ≤ length counts.now }
-    ensures { result ≡ offset states counts.now n }
+// How many facts there are in all.
+#[tactic(auto, using(crate::proofs::Offsets::offset_zero, crate::proofs::Offsets::offset_more, crate::proofs::Offsets::facts_small))]
+pub fn fact_total(states: usize, counts: &[u16]) -> usize
+    requires { SmallCounts states counts.now }
+    ensures { result ≡ fact_total states counts.now }
 {
     let mut sum = 0;
-    let mut p = 0;
-    while p < n {
-        sum += facts_of(states, counts[p]);
-        p += 1;
+    for &count in counts {
+        sum += facts_of(states, count);
     }
     sum
 }
 
-// Where the facts of a procedure begin.
+// Where the facts of a procedure begin: behind those of the procedures before it.
+#[tactic(auto, using(crate::proofs::Offsets::total_before, crate::proofs::Offsets::small_before))]
 pub fn fact_offset(states: usize, counts: &[u16], procedure: Procedure) -> usize
     requires small_counts { SmallCounts states counts.now }
     requires procedure_in_bounds { procedure.0 < length counts.now }
     ensures { result ≡ offset states counts.now procedure.0 }
 {
-    facts_before(states, counts, procedure.0 as usize)
-}
-
-// How many facts there are in all.
-pub fn fact_total(states: usize, counts: &[u16]) -> usize
-    requires { SmallCounts states counts.now }
-    ensures { result ≡ fact_total states counts.now }
-{
-    facts_before(states, counts, counts.len())
+    fact_total(states, &counts[..procedure.number()])
 }

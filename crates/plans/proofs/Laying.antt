@@ -7,8 +7,9 @@ use native.Mathlib.Nat.{zero-add}
 use native.Mathlib.Omega.{arith}
 use lib.ListN.{length, get_or, set, take, length-set}
 use lib.Seq.{get_or-take, get_or-set_same, get_or-set_other, length-take-le}
+use mir.Val.{bool_byte}
 use Rattle.model.specs.Tables.{Transformation}
-use Rattle.plans.specs.Plans.{most_procedures, most_nodes, most_numbers, entries, entry_of, sides_place, nodes_place, numbers_place, ends_place, stay_place, flag_place, plan_length, overlaid, Sides, stay_flag, Laid}
+use Rattle.plans.specs.Plans.{most_procedures, most_nodes, most_numbers, entries, entry_of, sides_place, nodes_place, numbers_place, ends_place, stay_place, flag_place, plan_length, overlaid, Sides, has_stay, Laid}
 use Rattle.plans.proofs.Limits.{most_made}
 use Rattle.plans.proofs.Overlays.{length_overlaid, overlaid_in, overlaid_below}
 
@@ -64,7 +65,7 @@ module _ (T : Transformation) (numbers ends sides : List ℕ)
     node_number : (i j : ℕ) → i ≡ nodes_place + j → j < length T.nodes → get_or whole i 0 ≡ get_or T.nodes j 0
     node_number i j e h = ap (λ (x : ℕ). get_or whole x 0) e ∙ below_numbers (nodes_place + j) (omega arith) ∙ written t₂ t₃ T.nodes nodes_place e₃ n₂ (omega arith) j h
 
-    pub laid : Sides T.rules sides → stay ≡ T.symbols → flag ≡ stay_flag T.symbols T.rules → Laid T numbers ends whole
+    pub laid : Sides T.rules sides → stay ≡ T.symbols → flag ≡ bool_byte (has_stay T.symbols T.rules) → Laid T numbers ends whole
     laid right same flagged =
         record {
           count = λ p h.

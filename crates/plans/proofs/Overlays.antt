@@ -21,11 +21,9 @@ module _ (l : List ℕ) (at : ℕ) (new : List ℕ) (fits : at + length new ≤ 
   start_length = omega (arith, length-take at l)
 
   pub length_overlaid : length (overlaid l at new) ≡ length l
-  unfolding overlaid
   length_overlaid = length-paste l at new (length new) fits (omega arith)
 
   pub overlaid_in : (i : ℕ) → i < length new → get_or (overlaid l at new) (at + i) 0 ≡ get_or new i 0
-  unfolding overlaid
   overlaid_in i h =
       get_or-append head tail 0 (at + i) (omega (arith, head_length))
       ∙ ap (λ (n : ℕ). get_or head (n + i) 0) (sym start_length)
@@ -33,7 +31,6 @@ module _ (l : List ℕ) (at : ℕ) (new : List ℕ) (fits : at + length new ≤ 
       ∙ get_or-take (length new) new i 0 h
 
   pub overlaid_below : (i : ℕ) → i < at → get_or (overlaid l at new) i 0 ≡ get_or l i 0
-  unfolding overlaid
   overlaid_below i h =
       get_or-append head tail 0 i (omega (arith, head_length))
       ∙ get_or-append (take at l) (take (length new) new) 0 i (omega (arith, start_length))

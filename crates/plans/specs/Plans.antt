@@ -1,5 +1,6 @@
 -- Plans: where the tables of a transformation and of a document stand in one.
-use Rattle.std.specs.Prelude.{◌≡◌, List, ℕ, ◌+◌, ◌*◌, ◌<◌, eqb, ltb, length, get_or}
+use Rattle.std.specs.Prelude.{◌≡◌, Bool, List, ℕ, ◌+◌, ◌*◌, ◌<◌, cond, eqb, ltb, length, get_or, Option, Some, None}
+use Rattle.std.specs.Option.{option_or}
 use Rattle.std.proofs.Math.Seq.{paste}
 use Rattle.foundation.specs.Tests.{choose}
 use Rattle.foundation.specs.Search.{first}
@@ -51,7 +52,7 @@ abbrev pub plan_length : ℕ
 plan_length = flag_place + 1
 
 -- a list with another written over it from a place on
-unfoldable pub overlaid : List ℕ → ℕ → List ℕ → List ℕ
+abbrev pub overlaid : List ℕ → ℕ → List ℕ → List ℕ
 overlaid l at new = paste l at new (length new)
 
 -- the right side of rule r; where there is no such rule, a number that is no node's
@@ -67,13 +68,9 @@ pub record SmallRules (rules : List ℕ) : Type 0 where
   pub procedure : (r : ℕ) → r < rule_count rules → (rule_at rules r).procedure < most_procedures
   pub symbol : (r : ℕ) → r < rule_count rules → (rule_at rules r).symbol < rule_symbols
 
--- whether a rule has the stay rules' symbol: 1 if one has
-abbrev pub stay_flag : (stay : ℕ) (rules : List ℕ) → ℕ
-stay_flag S rules = choose (ltb (first (λ r. eqb (rule_at rules r).symbol S) (rule_count rules)) (rule_count rules)) 1 0
-
--- the transformation of these tables, over so many symbols
-abbrev pub transformation_of : (S : ℕ) (counts nodes rules : List ℕ) → Transformation
-transformation_of S counts nodes rules = record { symbols = S; counts = counts; nodes = nodes; rules = rules }
+-- whether a rule has the stay rules' symbol
+abbrev pub has_stay : (stay : ℕ) (rules : List ℕ) → Bool
+has_stay S rules = ltb (first (λ r. eqb (rule_at rules r).symbol S) (rule_count rules)) (rule_count rules)
 
 -- what a plan has: node k
 abbrev pub plan_node : List ℕ → ℕ → Node
@@ -90,16 +87,20 @@ plan_node plan k =
 abbrev pub plan_side : List ℕ → (procedure symbol : ℕ) → ℕ
 plan_side plan p s = get_or plan (sides_place + entry_of p s) 0
 
+-- the same, if there is one
+abbrev pub plan_own : List ℕ → (procedure symbol : ℕ) → Option ℕ
+plan_own plan p s = cond (ltb (plan_side plan p s) most_nodes) (Some (plan_side plan p s)) None
+
 -- the symbol of the stay rules
 abbrev pub plan_stay : List ℕ → ℕ
 plan_stay plan = get_or plan stay_place 0
 
 -- the right side that a run takes: the symbol's first, and the first of a stay rule only if there is none
-unfoldable pub plan_sought : List ℕ → (procedure symbol : ℕ) → ℕ
-plan_sought plan p s = choose (ltb (plan_side plan p s) most_nodes) (plan_side plan p s) (plan_side plan p (plan_stay plan))
+abbrev pub plan_sought : List ℕ → (procedure symbol : ℕ) → Option ℕ
+plan_sought plan p s = option_or (plan_own plan p s) (plan_own plan p (plan_stay plan))
 
 -- how many calls a run makes at most
-unfoldable pub plan_most : List ℕ → ℕ
+abbrev pub plan_most : List ℕ → ℕ
 plan_most plan = choose (eqb (get_or plan flag_place 0) 1) 4096 65536
 
 -- the tables that a plan has

@@ -1,8 +1,9 @@
 -- LineLaws: lines put together, and what stands of them in the output buffer where they fit.
-use mathlib.Core.Path.{◌≡◌, refl, ap, sym, ◌∙◌}
+use Rattle.std.proofs.lemmas.List.{take-replicate}
+use mathlib.Core.Path.{◌≡◌, refl, ap, sym, subst, ◌∙◌}
 use mathlib.Core.Bool.{Bool, true, false}
 use mathlib.Core.List.{List, [], ◌∷◌, ◌++◌, append_assoc}
-use Prim.Native.Nat.{ℕ, zero, suc, ◌+◌, ◌*◌, ◌-◌, ◌/◌, ◌%◌, ◌≤◌, ◌<◌, min}
+use Prim.Native.Nat.{ℕ, zero, suc, ◌+◌, ◌*◌, ◌-◌, ◌/◌, ◌%◌, ◌≤◌, min}
 use native.Mathlib.Omega.{arith}
 use lib.Dec.{ltb}
 use lib.ListN.{length, take, drop, length-append, length-take, length-replicate, get_or-replicate}
@@ -11,34 +12,39 @@ use Rattle.foundation.specs.Tests.{choose}
 use Rattle.model.specs.Answers.{Answer, admitted, judged, tree, pass, ran, written, refusal, stopped}
 use Rattle.model.specs.WritingOut.{Written}
 use Rattle.printing.specs.Decimals.{digits_onto, decimal}
-use Rattle.printing.proofs.Runs.{Appended, appended_both}
-use Rattle.lines.proofs.Listings.{Listed, listed_more}
+use Rattle.printing.specs.Appending.{Appended, Appends}
+use Rattle.printing.specs.declared.pages.Page.{Page}
+use Rattle.printing.proofs.Texts.{appended_both}
+use Rattle.lines.proofs.Listings.{spaced_next}
 use Rattle.script.specs.Phrases as phrases
 use Rattle.script.specs.Meaning.{line, spaced, untouched, answer_text, written_text}
 
 -- sevens, one behind another
-pub sevens_more : (entry : List ℕ) (at count : ℕ) {out : List ℕ} {place i next : ℕ} {after : List ℕ} → Listed entry at (untouched count) out place i → i < count
-    → Appended out place (32 ∷ decimal 7) next after → Listed entry at (untouched count) after next (i + 1)
-sevens_more entry at count {i = i} l h a =
-    let n : length (untouched count) ≡ count = length-replicate {A = ℕ} count 7 in
-    listed_more entry at (untouched count) l 7 (omega arith) (sym (get_or-replicate {A = ℕ} count i 7 0 h)) a
+pub sevens_more : (i : ℕ) {a b c : Page} → Appends a b (spaced (untouched i)) → Appends b c (32 ∷ decimal 7) → Appends a c (spaced (untouched (i + 1)))
+sevens_more i {a} {b} {c} first second =
+    let all : List ℕ = untouched (i + 1) in
+    let n : length all ≡ i + 1 = length-replicate {A = ℕ} (i + 1) 7 in
+    let front : take i all ≡ untouched i = take-replicate i (i + 1) 7 (omega arith) in
+    let whole : take (i + 1) all ≡ all = take-replicate (i + 1) (i + 1) 7 (omega arith) in
+    subst (λ (l : List ℕ). Appends a c (spaced l)) whole
+    (spaced_next all i 7 (omega arith) (sym (get_or-replicate {A = ℕ} (i + 1) i 7 0 (omega arith))) (subst (λ (l : List ℕ). Appends a b (spaced l)) (sym front) first) second)
 
 -- a text that fits stands at the beginning of the buffer
 module _ (entry text : List ℕ) {place : ℕ} {out : List ℕ} (a : Appended entry 0 text place out) (h : length text ≤ length entry) where
   pub appended_place : place ≡ length text
-  appended_place = let e : place ≡ min (0 + length text) (length entry) = a.0 in omega arith
+  appended_place = let e : place ≡ min (0 + length text) (length entry) = a.behind in omega arith
 
   appended_text : out ≡ text ++ drop (length text) entry
   appended_text =
       let z : 0 + length text ≡ length text = omega arith in
-      a.1 ∙ sets-eq text entry 0 (omega arith) ∙ ap (λ (n : ℕ). text ++ drop n entry) z
+      a.stored ∙ sets-eq text entry 0 (omega arith) ∙ ap (λ (n : ℕ). text ++ drop n entry) z
 
   pub appended_first : take place out ≡ text
   appended_first = ap (take place) appended_text ∙ take_at text (drop (length text) entry) place (sym appended_place)
 
   pub appended_within : place ≤ length out
   appended_within =
-      let l : length out ≡ length entry = ap length a.1 ∙ length-sets entry 0 text in
+      let l : length out ≡ length entry = ap length a.stored ∙ length-sets entry 0 text in
       let p : place ≡ length text = appended_place in
       omega arith
 

@@ -1,5 +1,5 @@
 -- PlayLaws: what a statement prints is what its step prints, and an answered question is the definition's step.
-use mathlib.Core.Path.{◌≡◌, refl, ap, ap₂, sym, ◌∙◌}
+use mathlib.Core.Path.{◌≡◌, refl, ap, ap₂, sym, subst, ◌∙◌}
 use mathlib.Core.Bool.{true, false}
 use mathlib.Core.List.{List, ◌++◌}
 use Prim.Native.Nat.{ℕ, ◌+◌, ◌*◌, ◌≤◌}
@@ -9,7 +9,8 @@ use lib.Seq.{take_at}
 use Rattle.foundation.specs.Tests.{choose}
 use Rattle.model.specs.Answers.{Answer}
 use Rattle.model.specs.WritingOut.{Written}
-use Rattle.printing.proofs.Runs.{Appended}
+use Rattle.printing.specs.Appending.{Appended, Appends}
+use Rattle.printing.specs.declared.pages.Page.{Page}
 use Rattle.script.specs.Spans.{overwritten}
 use Rattle.script.specs.Meaning.{State, line, labelled, spaced, answer_text, untouched}
 use Rattle.playing.specs.declared.desks.Desk.{Desk}
@@ -40,6 +41,10 @@ module _ (entry x y : List ℕ) {n m : ℕ} {mid out : List ℕ} (a : Appended e
 
   pub two_fit : PrintedFits (printed.Lines n m) (length out)
   two_fit = let both : Both (line x) (line y) n m out = appended_two entry (line x) (line y) a b h in (both.ordered, both.within)
+
+-- the same on a page that was empty
+pub from_start : {a b : Page} {text : List ℕ} → a.at ≡ 0 → Appends a b text → Appended a.out.now 0 text b.at b.out.now
+from_start {a} {b} {text} z p = subst (λ (n : ℕ). Appended a.out.now n text b.at b.out.now) z p.put
 
 -- how long the lines of buffers are
 pub list_line : (word numbers : List ℕ) → length (line (word ++ spaced numbers)) ≤ 2 + (length word + 21 * length numbers)

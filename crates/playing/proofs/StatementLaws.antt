@@ -2,29 +2,26 @@
 use mathlib.Core.Path.{◌≡◌, refl, ◌∙◌}
 use mathlib.Core.List.{List}
 use Prim.Native.Nat.{ℕ, ◌+◌, ◌≤◌}
+use Rattle.std.specs.Prelude.{Option}
 use native.Mathlib.Omega.{arith}
 use lib.ListN.{length}
 use Rattle.model.specs.WritingOut.{writing_out}
 use Rattle.script.specs.Meaning.{State, Step, quiet, step, labelled, left_lines, written_text, untouched, most_numbers}
 use Rattle.script.specs.declared.spans.Span.{Span}
-use Rattle.script.specs.declared.spans.Fault.{Fault}
 use Rattle.lexing.specs.declared.words.Size.{Size}
 use Rattle.lexing.specs.declared.words.Table.{Table}
 use Rattle.script.specs.declared.statements.Listed.{Listed}
 use Rattle.script.specs.declared.statements.Listed.TheVariants as listed
 use Rattle.script.specs.declared.statements.Statement.{Statement}
 use Rattle.script.specs.declared.statements.Statement.TheVariants as statement
-use Rattle.playing.specs.declared.desks.Label.{Label}
 use Rattle.playing.specs.declared.desks.Desk.{Desk}
 use Rattle.playing.specs.declared.questions.Question.TheVariants as question
-use Rattle.playing.specs.declared.answering.Answered.{Answered}
 use Rattle.playing.specs.declared.showing.Printed.{Printed}
 use Rattle.playing.specs.declared.showing.Printed.TheVariants as printed
-use Rattle.playing.specs.declared.statements.Done.{Done}
 use Rattle.playing.specs.Desks.{kept, stretch, span, label_of, left_of, state_of, desk_with_size, desk_with_table, desk_with_rows, InOrder}
 use Rattle.playing.specs.Questions.{question_step}
 use Rattle.playing.specs.Printed.{printed_text, PrintedFits}
-use Rattle.playing.specs.Plays.{Plays, done}
+use Rattle.playing.specs.Plays.{Plays}
 use Rattle.playing.proofs.StateLaws.{size_state, table_state, rows_state, size_order, table_order, rows_order}
 
 -- a step that prints nothing
@@ -32,11 +29,11 @@ plays_quiet : {before after : List ℕ} {s : Step} {d : Desk} {numbers rows word
     → Plays before after s d numbers rows words out printed.Nothing
 plays_quiet out e o = rw e (record { state = refl; text = refl; order = o; fits = tt })
 
--- a question's step, and the value made of its answer
-pub plays_as : (text : List ℕ) (label : Label) (a : Answered) {r : Done} {s t : Step} {numbers rows words out : List ℕ} → r ≡ done label a.desk a.printed → s ≡ t
-    → Plays (label_of text label) (label_of text label) t a.desk numbers rows words out a.printed
-    → Plays (label_of text label) (label_of text r.label) s r.desk numbers rows words out r.printed
-plays_as text label a er es p = rw (er, es) p
+-- a question's step
+pub plays_as : (text : List ℕ) {label after : Option Span} {s t : Step} {d : Desk} {numbers rows words out : List ℕ} {p : Printed} → after ≡ label → s ≡ t
+    → Plays (label_of text label) (label_of text label) t d numbers rows words out p
+    → Plays (label_of text label) (label_of text after) s d numbers rows words out p
+plays_as text el es p = rw (el, es) p
 
 module _ (state : State) (text : List ℕ) where
   pub step_admit : {st : Statement} (values others : List ℕ) → st ≡ statement.Admit → step state text st values ≡ question_step state question.Admit others
@@ -59,14 +56,6 @@ module _ (state : State) (text : List ℕ) where
 module _ (label numbers rows words out text : List ℕ) (d : Desk) (o : InOrder d) where
   abbrev pub Still : (after : List ℕ) → Statement → List ℕ → Desk → Printed → Type 0
   Still after st values d₁ p = Plays label after (step (state_of label d numbers rows words) text st values) d₁ numbers rows words out p
-
-  pub plays_end : {st : Statement} (values : List ℕ) → st ≡ statement.End → Still label st values d printed.Nothing
-  unfolding step
-  plays_end values e = plays_quiet out (rw e) o
-
-  pub plays_fault : {st : Statement} {f : Fault} (values : List ℕ) → st ≡ statement.Fault f → Still label st values d printed.Nothing
-  unfolding step
-  plays_fault values e = plays_quiet out (rw e) o
 
   pub plays_case : {st : Statement} {s : Span} (values : List ℕ) → st ≡ statement.Case s → Still (stretch text s) st values d printed.Nothing
   unfolding step

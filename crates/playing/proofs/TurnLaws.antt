@@ -15,29 +15,28 @@ use Rattle.printing.specs.Decimals.{decimal}
 use Rattle.script.specs.Phrases as phrases
 use Rattle.script.specs.Spans.{bytes_of, overwritten}
 use Rattle.script.specs.Statements.{Read, statement_at}
-use Rattle.script.specs.Meaning.{State, Step, step, goes_on_after, stop_text, play_step, played, most_numbers, most_shown, most_bytes, token_text, standing_text, found_text, expected_text, fault_line}
+use Rattle.script.specs.Meaning.{State, Step, step, play_step, played, most_numbers, most_shown, most_bytes, token_text, standing_text, found_text, expected_text, fault_line}
 use Rattle.script.specs.declared.spans.Span.{Span}
 use Rattle.script.specs.declared.spans.Fault.{Fault}
 use Rattle.script.specs.declared.spans.Expected.{Expected}
 use Rattle.script.specs.declared.spans.Expected.TheVariants as expected
 use Rattle.script.specs.declared.statements.Reading.{Reading}
-use Rattle.playing.specs.declared.desks.Label.{Label}
+use Rattle.std.specs.Prelude.{Option, Some, None, Result, Ok, Err}
 use Rattle.playing.specs.declared.desks.Desk.{Desk}
-use Rattle.playing.specs.declared.showing.Printed.{Printed}
-use Rattle.playing.specs.declared.statements.Done.{Done}
+use Rattle.playing.specs.declared.showing.Printed.TheVariants as printed
+use Rattle.playing.specs.declared.answering.Done.{Done}
 use Rattle.playing.specs.Desks.{kept, stretch, span, label_of, state_of, LabelFits, InOrder}
-use Rattle.playing.specs.Printed.{printed_text, PrintedFits}
 use Rattle.playing.specs.Plays.{Plays, done, count_of, label_after}
 use Rattle.playing.specs.Turns.{Turns}
 use Rattle.playing.proofs.StateLaws.{state_agrees}
 use Rattle.playing.proofs.LineLaws.{decimal_short}
-use Rattle.playing.proofs.ReadLaws.{sound}
+use Rattle.playing.proofs.ReadLaws.{Known, sound}
 
 -- a part behind a place, lent and given back
 pub part_whole : (numbers : List ℕ) (used : ℕ) → take (length numbers - used) (drop used numbers) ≡ drop used numbers
 part_whole numbers used = take_all (length numbers - used) (drop used numbers) (rw (length-drop used numbers) (omega arith))
 
-pub read_back : (text : List ℕ) (cut : Bool) (at used : ℕ) (numbers : List ℕ) {r : Reading} {part : List ℕ}
+pub read_back : (text : List ℕ) (cut : Bool) (at used : ℕ) (numbers : List ℕ) {r : Result (Option Reading) Fault} {part : List ℕ}
     → r ≡ (statement_at text cut (length (take (length numbers - used) (drop used numbers))) at).reading
     → part ≡ overwritten (statement_at text cut (length (take (length numbers - used) (drop used numbers))) at).values (take (length numbers - used) (drop used numbers))
     → (r ≡ (statement_at text cut (length numbers - used) at).reading)
@@ -106,39 +105,43 @@ module _ (numbers values : List ℕ) (used : ℕ) (h : used ≤ length numbers) 
       ∙ take_at values (drop (length values) (drop used numbers)) (used + count - used) (sym n)
 
 -- a turn, by what is read and what is done with it
-module _ (text : List ℕ) (cut : Bool) (at : ℕ) (label : Label) (d : Desk) (o : InOrder d) (numbers rows words : List ℕ) (full : length numbers ≡ kept + most_numbers) where
+module _ (text : List ℕ) (cut : Bool) (at : ℕ) (label : Option Span) (d : Desk) (o : InOrder d) (numbers rows words : List ℕ) (full : length numbers ≡ kept + most_numbers) where
   abbrev before : State
   before = state_of (label_of text label) d numbers rows words
 
-  abbrev pub found : Read
+  abbrev pub found : Read (Option Reading)
   found = statement_at text cut (length numbers - d.used) at
 
   -- the room is the definition's
   room : most_numbers - before.used ≡ length numbers - d.used
   room = let l : kept ≤ d.used = o.least in let m : d.used ≤ kept + most_numbers = o.most in omega arith
 
-  unfolds : (n : ℕ) → played text cut (suc n) before at ≡ play_step text cut (played text cut n) before found
+  unfolds : (n : ℕ) → played text cut (suc n) before at ≡ play_step text cut (played text cut n) before found.values found.reading
   unfolding played
-  unfolds n = ap (λ (k : ℕ). play_step text cut (played text cut n) before (statement_at text cut k at)) room
+  unfolds n =
+      ap (λ (k : ℕ). play_step text cut (played text cut n) before (statement_at text cut k at).values (statement_at text cut k at).reading) room
 
-  module _ {r : Reading} {numbers₁ : List ℕ} (er : r ≡ found.reading) (en : numbers₁ ≡ take d.used numbers ++ overwritten found.values (drop d.used numbers)) where
+  -- what is printed where this is read
+  by_reading : (n : ℕ) {r : Result (Option Reading) Fault} → r ≡ found.reading
+      → played text cut (suc n) before at ≡ play_step text cut (played text cut n) before found.values r
+  by_reading n er = unfolds n ∙ ap (play_step text cut (played text cut n) before found.values) (sym er)
+
+  module _ {r : Reading} {numbers₁ : List ℕ} (er : Ok (Some r) ≡ found.reading) (en : numbers₁ ≡ take d.used numbers ++ overwritten found.values (drop d.used numbers)) where
     within : d.used ≤ length numbers
     within = let m : d.used ≤ kept + most_numbers = o.most in omega arith
 
-    counts : goes_on_after r.statement ≡ true → count_of r.statement ≡ length found.values
-    counts g =
-        ap (λ (x : Reading). count_of x.statement) er
-        ∙ (sound text cut (length numbers - d.used) at).exact (ap (λ (x : Reading). goes_on_after x.statement) (sym er) ∙ g)
+    known : Known text found.values (Ok (Some r))
+    known = subst (Known text found.values) (sym er) (sound text cut (length numbers - d.used) at).known
 
-    pub count_fits : goes_on_after r.statement ≡ true → length numbers₁ ≡ length numbers → d.used + count_of r.statement ≤ length numbers₁
-    count_fits g l =
-        let c : count_of r.statement ≡ length found.values = counts g in
+    pub count_fits : length numbers₁ ≡ length numbers → d.used + count_of r.statement ≤ length numbers₁
+    count_fits l =
+        let c : count_of r.statement ≡ length found.values = known.0 in
         let m : length found.values ≤ length numbers - d.used = (sound text cut (length numbers - d.used) at).most in
         let w : d.used ≤ length numbers = within in
         omega arith
 
     -- the statement is done
-    pub turn_on : {x : Done} {numbers₂ rows₂ words₂ out₂ : List ℕ} → goes_on_after r.statement ≡ true
+    pub turn_on : {x : Done} {numbers₂ rows₂ words₂ out₂ : List ℕ}
         → Plays (label_of text label) (label_of text x.label)
         (step (state_of (label_of text label) d numbers₁ rows words) text r.statement (stretch numbers₁ (span d.used (d.used + count_of r.statement))))
         x.desk
@@ -149,48 +152,32 @@ module _ (text : List ℕ) (cut : Bool) (at : ℕ) (label : Label) (d : Desk) (o
         x.printed
         → LabelFits label (length text)
         → x.label ≡ label_after r.statement label
-        → Turns text cut at label before (record { done = x; next = r.next; goes_on = true }) numbers₂ rows₂ words₂ out₂
-    turn_on {x} {numbers₂} {rows₂} {words₂} {out₂} g p fit el =
-        let s : Step = step before text found.reading.statement found.values in
+        → Turns text cut at label before (record { done = x; next = Some r.next }) numbers₂ rows₂ words₂ out₂
+    turn_on {x} {numbers₂} {rows₂} {words₂} {out₂} p fit el =
+        let s : Step = step before text r.statement found.values in
         let e₁ : state_of (label_of text label) d numbers₁ rows words ≡ before =
         state_agrees (label_of text label) d numbers₁ numbers rows words o (ap (take d.used) en ∙ read_used numbers found.values d.used within) in
         let e₂ : stretch numbers₁ (span d.used (d.used + count_of r.statement)) ≡ found.values =
-        ap (λ (l : List ℕ). stretch l (span d.used (d.used + count_of r.statement))) en ∙ read_values numbers found.values d.used within (counts g) in
+        ap (λ (l : List ℕ). stretch l (span d.used (d.used + count_of r.statement))) en ∙ read_values numbers found.values d.used within known.0 in
         let e : step (state_of (label_of text label) d numbers₁ rows words) text r.statement (stretch numbers₁ (span d.used (d.used + count_of r.statement))) ≡ s =
-        ap₂ (λ (a : State) (v : List ℕ). step a text r.statement v) e₁ e₂ ∙ ap (λ (y : Reading). step before text y.statement found.values) er in
+        ap₂ (λ (a : State) (v : List ℕ). step a text r.statement v) e₁ e₂ in
         let q : Plays (label_of text label) (label_of text x.label) s x.desk numbers₂ rows₂ words₂ out₂ x.printed =
         subst (λ (t : Step). Plays (label_of text label) (label_of text x.label) t x.desk numbers₂ rows₂ words₂ out₂ x.printed) e p in
-        let g₁ : goes_on_after found.reading.statement ≡ true = ap (λ (y : Reading). goes_on_after y.statement) (sym er) ∙ g in
         record {
-          plays =
-              λ n.
-              unfolds n
-              ∙ ap (λ (b : Bool). choose b (s.printed ++ played text cut n s.state found.reading.next) (stop_text text found.reading.statement)) g₁
-              ∙ ap₂ (λ (l : List ℕ) (a : State). l ++ played text cut n a found.reading.next) (sym q.text) (sym q.state)
-              ∙ ap (λ (y : Reading). printed_text (label_of text label) out₂ x.printed ++ played text cut n (state_of (label_of text x.label) x.desk numbers₂ rows₂ words₂) y.next) (sym er);
+          plays = λ n. by_reading n er ∙ ap₂ (λ (l : List ℕ) (a : State). l ++ played text cut n a r.next) (sym q.text) (sym q.state);
           order = q.order;
-          labelled =
-              rw (el, ap (λ (y : Reading). y.statement) er)
-              ((sound text cut (length numbers - d.used) at).named label fit);
+          labelled = rw el (known.1 label fit);
           fits = q.fits;
         }
 
-    -- the script stops
-    pub turn_off : {p : Printed} {numbers₂ rows₂ words₂ out₂ : List ℕ} → goes_on_after r.statement ≡ false
-        → ((l : List ℕ) → printed_text l out₂ p ≡ stop_text text r.statement) → PrintedFits p (length out₂) → LabelFits label (length text)
-        → Turns text cut at label before (record { done = done label d p; next = r.next; goes_on = false }) numbers₂ rows₂ words₂ out₂
-    turn_off {p} {numbers₂} {rows₂} {words₂} {out₂} g shown fits fit =
-        let g₁ : goes_on_after found.reading.statement ≡ false = ap (λ (y : Reading). goes_on_after y.statement) (sym er) ∙ g in
-        let s : Step = step before text found.reading.statement found.values in
-        record {
-          plays =
-              λ n.
-              unfolds n
-              ∙ ap (λ (b : Bool). choose b (s.printed ++ played text cut n s.state found.reading.next) (stop_text text found.reading.statement)) g₁
-              ∙ ap (λ (y : Reading). stop_text text y.statement) (sym er)
-              ∙ sym (shown (label_of text label))
-              ∙ sym (append-nil (printed_text (label_of text label) out₂ p));
-          order = o;
-          labelled = fit;
-          fits = fits;
-        }
+  -- there is no statement any more
+  pub turn_end : {numbers₂ rows₂ words₂ out₂ : List ℕ} → Ok None ≡ found.reading → LabelFits label (length text)
+      → Turns text cut at label before (record { done = done label d printed.Nothing; next = None }) numbers₂ rows₂ words₂ out₂
+  turn_end er fit = record { plays = λ n. by_reading n er; order = o; labelled = fit; fits = tt }
+
+  -- there is a fault
+  pub turn_fault : {f : Fault} {place : ℕ} {numbers₂ rows₂ words₂ out₂ : List ℕ} → Err f ≡ found.reading → take place out₂ ≡ fault_line text f → place ≤ length out₂
+      → LabelFits label (length text)
+      → Turns text cut at label before (record { done = done label d (printed.Bare place); next = None }) numbers₂ rows₂ words₂ out₂
+  turn_fault {place = place} {out₂ = out₂} er shown fits fit =
+      record { plays = λ n. by_reading n er ∙ sym shown ∙ sym (append-nil (take place out₂)); order = o; labelled = fit; fits = fits }

@@ -1,5 +1,5 @@
 -- Desks: which state of a script's definition the desk and the buffers stand for, and when a desk is in order.
-use Rattle.std.specs.Prelude.{List, [], ◌∷◌, ℕ, ◌+◌, ◌-◌, ◌≤◌, take}
+use Rattle.std.specs.Prelude.{List, [], ◌∷◌, ℕ, ◌+◌, ◌-◌, ◌≤◌, take, Option, Some, None}
 use Rattle.script.specs.Spans.{bytes_of}
 use Rattle.script.specs.Meaning as meaning
 use Rattle.model.specs.Tables.{Contract}
@@ -13,8 +13,6 @@ use Rattle.playing.specs.declared.desks.Sizes.{Sizes}
 use Rattle.playing.specs.declared.desks.Tables.{Tables}
 use Rattle.playing.specs.declared.desks.Left.{Left}
 use Rattle.playing.specs.declared.desks.Left.TheVariants as left
-use Rattle.playing.specs.declared.desks.Label.{Label}
-use Rattle.playing.specs.declared.desks.Label.TheVariants as label
 use Rattle.playing.specs.declared.desks.Desk.{Desk}
 
 -- so many numbers at the beginning of the buffer are for the row table that a check or a run leaves
@@ -28,9 +26,10 @@ stretch = bytes_of
 abbrev pub span : ℕ → ℕ → Span
 span start end = record { start = start; end = end }
 
-abbrev pub label_of : List ℕ → Label → List ℕ
-label_of text label.Dash = 45 ∷ []
-label_of text (label.Token s) = bytes_of text s
+-- the label of the lines: `-` until a token is one
+abbrev pub label_of : List ℕ → Option Span → List ℕ
+label_of text None = 45 ∷ []
+label_of text (Some s) = bytes_of text s
 
 abbrev pub sizes_of : Sizes → List ℕ
 sizes_of s = s.symbols ∷ s.input_states ∷ s.output_states ∷ []
@@ -139,6 +138,6 @@ pub record InOrder (d : Desk) : Type 0 where
   pub most : d.used ≤ kept + most_numbers
 
 -- a label that is a token lies within the text
-abbrev pub LabelFits : Label → ℕ → Type 0
-LabelFits label.Dash n = Unit {0}
-LabelFits (label.Token s) n = Inside 0 n s
+abbrev pub LabelFits : Option Span → ℕ → Type 0
+LabelFits None n = Unit {0}
+LabelFits (Some s) n = Inside 0 n s

@@ -1,13 +1,12 @@
 -- Plays: a statement is done. The desk and the buffers stand for the state behind the definition's step, and what is
 -- printed is the step's text.
-use Rattle.std.specs.Prelude.{◌≡◌, List, ℕ, ◌≤◌, length}
+use Rattle.std.specs.Prelude.{◌≡◌, List, ℕ, ◌≤◌, length, Option, Some}
 use Rattle.script.specs.Meaning.{Step}
 use Rattle.script.specs.declared.statements.Statement.{Statement}
 use Rattle.script.specs.declared.statements.Statement.TheVariants as statement
-use Rattle.playing.specs.declared.desks.Label.{Label}
-use Rattle.playing.specs.declared.desks.Label.TheVariants as label
+use Rattle.script.specs.declared.spans.Span.{Span}
 use Rattle.playing.specs.declared.desks.Desk.{Desk}
-use Rattle.playing.specs.declared.statements.Done.{Done}
+use Rattle.playing.specs.declared.answering.Done.{Done}
 use Rattle.playing.specs.declared.showing.Printed.{Printed}
 use Rattle.playing.specs.Desks.{state_of, InOrder}
 use Rattle.playing.specs.Printed.{printed_text, PrintedFits, most_output}
@@ -26,13 +25,11 @@ pub record Plays (before after : List ℕ) (s : Step) (d : Desk) (numbers rows w
   pub fits : PrintedFits p (length out)
 
 -- what stands behind a statement
-abbrev pub done : Label → Desk → Printed → Done
+abbrev pub done : Option Span → Desk → Printed → Done
 done l d p = record { label = l; desk = d; printed = p }
 
 -- how many numbers a statement's list has
 abbrev pub count_of : Statement → ℕ
-count_of statement.End = 0
-count_of (statement.Fault f) = 0
 count_of (statement.Case s) = 0
 count_of (statement.Size z n) = 0
 count_of (statement.List l count) = count
@@ -42,10 +39,8 @@ count_of (statement.Write row room) = 0
 count_of statement.Show = 0
 
 -- the label behind a statement
-abbrev pub label_after : Statement → Label → Label
-label_after statement.End l = l
-label_after (statement.Fault f) l = l
-label_after (statement.Case s) l = label.Token s
+abbrev pub label_after : Statement → Option Span → Option Span
+label_after (statement.Case s) l = Some s
 label_after (statement.Size z n) l = l
 label_after (statement.List k count) l = l
 label_after statement.Admit l = l

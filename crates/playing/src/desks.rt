@@ -1,19 +1,19 @@
 // What the statements of a script have set so far: the contract's sizes, and where its tables and the current row table
-// stand in one buffer of numbers.
+// stand in one buffer of numbers. They are spans of one buffer, since memory is fixed: a script decides how long each table is.
 ghost use Rattle.std.specs.Prelude.{◌≡◌};
 ghost use Rattle.playing.specs.Desks.{empty_desk, sizes_with, tables_with, desk_with_size, desk_with_table, desk_with_rows, desk_with_left};
 
 use lexing::words::{Size, Table};
 use script::spans::Span;
 
-#[derive(Clone, Copy)]
+#[derive(Clone, Copy, Debug, PartialEq, Eq)]
 pub struct Sizes {
     pub symbols: usize,
     pub input_states: usize,
     pub output_states: usize,
 }
 
-#[derive(Clone, Copy)]
+#[derive(Clone, Copy, Debug, PartialEq, Eq)]
 pub struct Tables {
     pub counts: Span,
     pub input_rows: Span,
@@ -25,7 +25,7 @@ pub struct Tables {
 }
 
 // What the last check, run or judgement left in its buffers.
-#[derive(Clone, Copy)]
+#[derive(Clone, Copy, Debug, PartialEq, Eq)]
 pub enum Left {
     Nothing,
     // So many numbers at the beginning of the row buffer, or words at the beginning of the word buffer.
@@ -37,7 +37,7 @@ pub enum Left {
     Sevens(usize, usize),
 }
 
-#[derive(Clone, Copy)]
+#[derive(Clone, Copy, Debug, PartialEq, Eq)]
 pub struct Desk {
     pub sizes: Sizes,
     pub tables: Tables,
@@ -48,13 +48,6 @@ pub struct Desk {
     pub used: usize,
 }
 
-// The label of the lines: `-` until a token is one.
-#[derive(Clone, Copy)]
-pub enum Label {
-    Dash,
-    Token(Span),
-}
-
 // Before the first statement.
 pub fn empty_desk() -> Desk
     ensures { result ≡ empty_desk }
@@ -63,23 +56,21 @@ pub fn empty_desk() -> Desk
         start: 12288,
         end: 12288,
     };
-    let sizes = Sizes {
-        symbols: 0,
-        input_states: 0,
-        output_states: 0,
-    };
-    let tables = Tables {
-        counts: none,
-        input_rows: none,
-        input_marks: none,
-        output_table: none,
-        output_marks: none,
-        nodes: none,
-        rules: none,
-    };
     Desk {
-        sizes: sizes,
-        tables: tables,
+        sizes: Sizes {
+            symbols: 0,
+            input_states: 0,
+            output_states: 0,
+        },
+        tables: Tables {
+            counts: none,
+            input_rows: none,
+            input_marks: none,
+            output_table: none,
+            output_marks: none,
+            nodes: none,
+            rules: none,
+        },
         rows: none,
         left: Left::Nothing,
         used: 12288,
@@ -93,18 +84,15 @@ fn with_size(sizes: Sizes, size: Size, value: usize) -> Sizes
     match size {
         Size::Symbols => Sizes {
             symbols: value,
-            input_states: sizes.input_states,
-            output_states: sizes.output_states,
+            ..sizes
         },
         Size::InputStates => Sizes {
-            symbols: sizes.symbols,
             input_states: value,
-            output_states: sizes.output_states,
+            ..sizes
         },
         Size::OutputStates => Sizes {
-            symbols: sizes.symbols,
-            input_states: sizes.input_states,
             output_states: value,
+            ..sizes
         },
     }
 }
@@ -113,36 +101,35 @@ fn with_size(sizes: Sizes, size: Size, value: usize) -> Sizes
 fn with_table(tables: Tables, table: Table, place: Span) -> Tables
     ensures { result ≡ tables_with tables table place }
 {
-    let mut next = tables;
     match table {
-        Table::Counts => {
-            next.counts = place;
-            next
-        }
-        Table::InputRows => {
-            next.input_rows = place;
-            next
-        }
-        Table::InputMarks => {
-            next.input_marks = place;
-            next
-        }
-        Table::OutputTable => {
-            next.output_table = place;
-            next
-        }
-        Table::OutputMarks => {
-            next.output_marks = place;
-            next
-        }
-        Table::Nodes => {
-            next.nodes = place;
-            next
-        }
-        Table::Rules => {
-            next.rules = place;
-            next
-        }
+        Table::Counts => Tables {
+            counts: place,
+            ..tables
+        },
+        Table::InputRows => Tables {
+            input_rows: place,
+            ..tables
+        },
+        Table::InputMarks => Tables {
+            input_marks: place,
+            ..tables
+        },
+        Table::OutputTable => Tables {
+            output_table: place,
+            ..tables
+        },
+        Table::OutputMarks => Tables {
+            output_marks: place,
+            ..tables
+        },
+        Table::Nodes => Tables {
+            nodes: place,
+            ..tables
+        },
+        Table::Rules => Tables {
+            rules: place,
+            ..tables
+        },
     }
 }
 
@@ -150,52 +137,45 @@ fn with_table(tables: Tables, table: Table, place: Span) -> Tables
 pub fn set_size(desk: Desk, size: Size, value: usize) -> Desk
     ensures { result ≡ desk_with_size desk size value }
 {
-    let sizes = desk.sizes;
-    let mut next = desk;
-    next.sizes = with_size(sizes, size, value);
-    next
+    Desk {
+        sizes: with_size(desk.sizes, size, value),
+        ..desk
+    }
 }
 
 // The free numbers up to an end are a table from now on.
 pub fn set_table(desk: Desk, table: Table, end: usize) -> Desk
     ensures { result ≡ desk_with_table desk table end }
 {
-    let tables = desk.tables;
     let place = Span {
         start: desk.used,
-        end: end,
+        end,
     };
-    let mut next = desk;
-    next.tables = with_table(tables, table, place);
-    next.used = end;
-    next
+    Desk {
+        tables: with_table(desk.tables, table, place),
+        used: end,
+        ..desk
+    }
 }
 
 // The free numbers up to an end are the current row table from now on.
 pub fn set_rows(desk: Desk, end: usize) -> Desk
     ensures { result ≡ desk_with_rows desk end }
 {
-    let place = Span {
+    let rows = Span {
         start: desk.used,
-        end: end,
+        end,
     };
-    let mut next = desk;
-    next.rows = place;
-    next.used = end;
-    next
+    Desk {
+        rows,
+        used: end,
+        ..desk
+    }
 }
 
 // Other rows are current, and other buffers left.
 pub fn set_left(desk: Desk, rows: Span, left: Left) -> Desk
     ensures { result ≡ desk_with_left desk rows left }
 {
-    let sizes = desk.sizes;
-    let tables = desk.tables;
-    Desk {
-        sizes: sizes,
-        tables: tables,
-        rows: rows,
-        left: left,
-        used: desk.used,
-    }
+    Desk { rows, left, ..desk }
 }

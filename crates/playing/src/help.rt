@@ -10,12 +10,10 @@ pub fn asks_help(text: &[u8], cut: bool) -> bool
     ensures { result ≡ asks_help text.now cut }
 {
     let word = next_span(text, 0);
-    let start = word.start;
-    let end = word.end;
-    let behind = next_span(text, end);
-    if text.len() <= start {
+    let behind = next_span(text, word.end);
+    if text.len() <= word.start {
         return false;
     }
-    let is_help = same(&text[start..end], b"help");
-    !cut & (is_help & (text.len() <= behind.start))
+    let is_help = same(&text[word.start..word.end], b"help");
+    !cut && is_help && text.len() <= behind.start
 }

@@ -4,7 +4,7 @@ ghost use Rattle.playing.specs.Questions.{lent_to, left_after, Small};
 
 use crate::desks::Left;
 
-#[derive(Clone, Copy)]
+#[derive(Clone, Copy, Debug, PartialEq, Eq)]
 pub enum Question {
     Admit,
     Judge,
@@ -15,7 +15,7 @@ pub enum Question {
 }
 
 // How many numbers and words are lent to a question.
-#[derive(Clone, Copy)]
+#[derive(Clone, Copy, Debug, PartialEq, Eq)]
 pub struct Lent {
     pub rows: usize,
     pub words: usize,
@@ -29,24 +29,16 @@ pub fn lent_to(question: Question) -> Lent
     match question {
         Question::Admit => Lent { rows: 0, words: 0 },
         Question::Judge => Lent { rows: 0, words: 5 },
-        Question::Check(limit) => {
-            if (limit < 1) | (512 < limit) {
-                return Lent { rows: 0, words: 0 };
-            }
-            Lent {
-                rows: 3 * limit,
-                words: 5 * limit,
-            }
-        }
-        Question::Run(rows) => {
-            if 4096 < rows {
-                return Lent { rows: 1, words: 0 };
-            }
-            Lent {
-                rows: 3 * rows,
-                words: 0,
-            }
-        }
+        Question::Check(limit) if limit < 1 || 512 < limit => Lent { rows: 0, words: 0 },
+        Question::Check(limit) => Lent {
+            rows: 3 * limit,
+            words: 5 * limit,
+        },
+        Question::Run(rows) if 4096 < rows => Lent { rows: 1, words: 0 },
+        Question::Run(rows) => Lent {
+            rows: 3 * rows,
+            words: 0,
+        },
     }
 }
 
@@ -58,17 +50,9 @@ pub fn left_after(question: Question, older: Left) -> Left
     match question {
         Question::Admit => older,
         Question::Judge => Left::Words(5),
-        Question::Check(limit) => {
-            if (limit < 1) | (512 < limit) {
-                return Left::Sevens(3 * limit, 5 * limit);
-            }
-            Left::Both(3 * limit, 5 * limit)
-        }
-        Question::Run(rows) => {
-            if 4096 < rows {
-                return Left::SevenRows(3 * rows);
-            }
-            Left::Rows(3 * rows)
-        }
+        Question::Check(limit) if limit < 1 || 512 < limit => Left::Sevens(3 * limit, 5 * limit),
+        Question::Check(limit) => Left::Both(3 * limit, 5 * limit),
+        Question::Run(rows) if 4096 < rows => Left::SevenRows(3 * rows),
+        Question::Run(rows) => Left::Rows(3 * rows),
     }
 }

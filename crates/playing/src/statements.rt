@@ -3,46 +3,20 @@ ghost use Rattle.std.specs.Prelude.{◌≡◌, List, ℕ, ◌+◌, ◌≤◌, le
 ghost use Rattle.script.specs.Meaning.{step, most_numbers};
 ghost use Rattle.script.specs.declared.statements.Statement.TheVariants as statements;
 ghost use Rattle.playing.specs.Desks.{kept, stretch, span, label_of, state_of, InOrder};
-ghost use Rattle.playing.specs.Plays.{Buffers, Plays, done, count_of, label_after};
+ghost use Rattle.playing.specs.Plays.{Buffers, Plays, count_of, label_after};
 
-use crate::answering::{Answered, answer};
-use crate::desks::{Desk, Label, set_rows, set_size, set_table};
+use crate::answering::{Done, answer};
+use crate::desks::{Desk, set_rows, set_size, set_table};
 use crate::questions::Question;
 use crate::showing::{Printed, show, write};
+use script::spans::Span;
 use script::statements::{Listed, Statement};
-
-fn wide(n: u16) -> usize
-    ensures { (result ≡ n) × (result ≤ 65535) }
-{
-    n as usize
-}
-
-// What stands behind a statement, and what it prints.
-#[derive(Clone, Copy)]
-pub struct Done {
-    pub label: Label,
-    pub desk: Desk,
-    pub printed: Printed,
-}
-
-// Behind a question.
-fn answered(label: Label, behind: Answered) -> Done
-    ensures { result ≡ done label behind.desk behind.printed }
-{
-    let desk = behind.desk;
-    let printed = behind.printed;
-    Done {
-        label: label,
-        desk: desk,
-        printed: printed,
-    }
-}
 
 // A list of numbers, which are the next free ones.
 fn do_list(
     listed: Listed,
     count: usize,
-    label: Label,
+    label: Option<Span>,
     desk: Desk,
     numbers: &mut [u16],
     rows: &mut [u16],
@@ -55,42 +29,33 @@ fn do_list(
         result.desk numbers.new rows.new words.new out.new result.printed }
     ensures label_value { result.label ≡ label }
 {
-    let used = desk.used;
-    let end = used + count;
+    let end = desk.used + count;
+    let quiet = Done {
+        label,
+        desk,
+        printed: Printed::Nothing,
+    };
     match listed {
         Listed::Table(table) => Done {
-            label: label,
             desk: set_table(desk, table, end),
-            printed: Printed::Nothing,
+            ..quiet
         },
         Listed::Rows => Done {
-            label: label,
             desk: set_rows(desk, end),
-            printed: Printed::Nothing,
+            ..quiet
         },
-        Listed::Judge => answered(
-            label,
-            answer(desk, Question::Judge, end, numbers, rows, words, out),
-        ),
-        Listed::Run(room) => answered(
-            label,
-            answer(
-                desk,
-                Question::Run(wide(room)),
-                end,
-                numbers,
-                rows,
-                words,
-                out,
-            ),
-        ),
+        Listed::Judge => answer(label, desk, Question::Judge, end, numbers, rows, words, out),
+        Listed::Run(room) => {
+            let question = Question::Run(usize::from(room));
+            answer(label, desk, question, end, numbers, rows, words, out)
+        }
     }
 }
 
 // Does a statement. The numbers of its list are the next free ones.
 pub fn do_statement(
     statement: Statement,
-    label: Label,
+    label: Option<Span>,
     desk: Desk,
     numbers: &mut [u16],
     rows: &mut [u16],
@@ -105,64 +70,45 @@ pub fn do_statement(
     ensures label_value { result.label ≡ label_after statement label }
 {
     let used = desk.used;
+    let quiet = Done {
+        label,
+        desk,
+        printed: Printed::Nothing,
+    };
     match statement {
-        Statement::End => Done {
-            label: label,
-            desk: desk,
-            printed: Printed::Nothing,
-        },
-        Statement::Fault(_) => Done {
-            label: label,
-            desk: desk,
-            printed: Printed::Nothing,
-        },
         Statement::Case(name) => Done {
-            label: Label::Token(name),
-            desk: desk,
-            printed: Printed::Nothing,
+            label: Some(name),
+            ..quiet
         },
         Statement::Size(size, value) => Done {
-            label: label,
-            desk: set_size(desk, size, wide(value)),
-            printed: Printed::Nothing,
+            desk: set_size(desk, size, usize::from(value)),
+            ..quiet
         },
         Statement::List(listed, count) => do_list(
             listed, count, label, desk, numbers, rows, words, out,
         ),
-        Statement::Admit => answered(
+        Statement::Admit => answer(
             label,
-            answer(desk, Question::Admit, used, numbers, rows, words, out),
+            desk,
+            Question::Admit,
+            used,
+            numbers,
+            rows,
+            words,
+            out,
         ),
-        Statement::Check(limit) => answered(
-            label,
-            answer(
-                desk,
-                Question::Check(wide(limit)),
-                used,
-                numbers,
-                rows,
-                words,
-                out,
-            ),
-        ),
+        Statement::Check(limit) => {
+            let question = Question::Check(usize::from(limit));
+            answer(label, desk, question, used, numbers, rows, words, out)
+        }
         Statement::Write(row, room) => {
-            let current = desk.rows;
-            let size = wide(room);
-            let printed = write(numbers, current, wide(row), &mut tree[..size], out);
-            Done {
-                label: label,
-                desk: desk,
-                printed: printed,
-            }
+            let room = usize::from(room);
+            let printed = write(numbers, desk.rows, usize::from(row), &mut tree[..room], out);
+            Done { printed, ..quiet }
         }
         Statement::Show => {
-            let left = desk.left;
-            let printed = show(left, rows, words, out);
-            Done {
-                label: label,
-                desk: desk,
-                printed: printed,
-            }
+            let printed = show(desk.left, rows, words, out);
+            Done { printed, ..quiet }
         }
     }
 }

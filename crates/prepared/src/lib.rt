@@ -3,14 +3,11 @@
 // breaking kind.
 #![tactic(auto)]
 
-ghost use Rattle.std.specs.Prelude.{◌≡◌, ◌<◌};
-ghost use Rattle.kind_words.specs.Sizes.{rule_symbols, next_rows};
-ghost use Rattle.kind_words.specs.Kind.{list_of};
-ghost use Rattle.prepared.specs.Parts.{contract_in, lists_in, Ready};
+ghost use Rattle.prepared.specs.Parts.{Ready, Ready-prop};
 
 use breaking::Verdicts;
 use chains::{list_of, rows_from};
-use lanes::Layout;
+use lanes::{Layout, PROCEDURES};
 use tables::Symbol;
 
 // `rounds` is how many rounds of the stay rules close a kind: none where there are no stay rules.
@@ -18,12 +15,12 @@ use tables::Symbol;
 // From place 0 the table has the parameter counts, the input rows, the input marks, the output table, the output marks, the
 // nodes and the rules, each to the end that is named after it; behind the rules the lists by symbol.
 #[derive(Clone, Copy)]
-pub struct Prepared {
+pub struct Parts {
     pub rounds: usize,
     pub symbols: usize,
     pub states: usize,
     pub layout: Layout,
-    pub offsets: [u16; 16],
+    pub offsets: [u16; PROCEDURES],
     pub verdicts: Verdicts,
     pub counts: usize,
     pub rows: usize,
@@ -34,76 +31,80 @@ pub struct Prepared {
     pub rules: usize,
 }
 
-// The parameter counts.
-pub fn counts_in(prepared: Prepared, table: &[u16]) -> &[u16]
-    requires { Ready prepared table.now }
-    ensures { result.now ≡ (contract_in prepared table.now).transformation.counts }
-{
-    let end = prepared.counts;
-    &table[0..end]
+// A table and where its parts stand. Every one is prepared for the contract that is in it.
+#[derive(Clone, Copy)]
+pub struct Prepared<'a> {
+    pub parts: Parts,
+    pub table: &'a [u16],
+    pub ghost ready: { Ready parts table.now } by { Ready-prop parts table.now },
 }
 
-// The input rows.
-pub fn rows_in(prepared: Prepared, table: &[u16]) -> &[u16]
-    requires { Ready prepared table.now }
-    ensures { result.now ≡ (contract_in prepared table.now).input.rows }
-{
-    let start = prepared.counts;
-    let end = prepared.rows;
-    &table[start..end]
-}
+impl<'a> Prepared<'a> {
+    ghost use Rattle.std.specs.Prelude.{◌≡◌, ◌<◌};
+    ghost use Rattle.kind_words.specs.Sizes.{rule_symbols, next_rows};
+    ghost use Rattle.kind_words.specs.Kind.{list_of};
+    ghost use Rattle.prepared.specs.Contract.{contract_of, lists_of};
 
-// The output table.
-pub fn output_table_in(prepared: Prepared, table: &[u16]) -> &[u16]
-    requires { Ready prepared table.now }
-    ensures { result.now ≡ (contract_in prepared table.now).output.table }
-{
-    let start = prepared.inputs;
-    let end = prepared.table;
-    &table[start..end]
-}
+    // The parameter counts.
+    pub fn counts(&self) -> &'a [u16]
+        ensures { result.now ≡ (contract_of self.now).transformation.counts }
+    {
+        let table = self.table;
+        &table[..self.parts.counts]
+    }
 
-// The nodes.
-pub fn nodes_in(prepared: Prepared, table: &[u16]) -> &[u16]
-    requires { Ready prepared table.now }
-    ensures { result.now ≡ (contract_in prepared table.now).transformation.nodes }
-{
-    let start = prepared.outputs;
-    let end = prepared.nodes;
-    &table[start..end]
-}
+    // The input rows.
+    pub fn rows(&self) -> &'a [u16]
+        ensures { result.now ≡ (contract_of self.now).input.rows }
+    {
+        let table = self.table;
+        &table[self.parts.counts..self.parts.rows]
+    }
 
-// The rules.
-pub fn rules_in(prepared: Prepared, table: &[u16]) -> &[u16]
-    requires { Ready prepared table.now }
-    ensures { result.now ≡ (contract_in prepared table.now).transformation.rules }
-{
-    let start = prepared.nodes;
-    let end = prepared.rules;
-    &table[start..end]
-}
+    // The output table.
+    pub fn output_table(&self) -> &'a [u16]
+        ensures { result.now ≡ (contract_of self.now).output.table }
+    {
+        let table = self.table;
+        &table[self.parts.inputs..self.parts.table]
+    }
 
-// The lists by symbol.
-pub fn lists_in(prepared: Prepared, table: &[u16]) -> &[u16]
-    requires { Ready prepared table.now }
-    ensures { result.now ≡ lists_in prepared table.now }
-{
-    let start = prepared.rules;
-    &table[start..]
-}
+    // The nodes.
+    pub fn nodes(&self) -> &'a [u16]
+        ensures { result.now ≡ (contract_of self.now).transformation.nodes }
+    {
+        let table = self.table;
+        &table[self.parts.outputs..self.parts.nodes]
+    }
 
-// The list of the symbol: the nodes that its rules reach.
-pub fn list_in(prepared: Prepared, table: &[u16], symbol: Symbol) -> &[u16]
-    requires { Ready prepared table.now × (symbol.0 < rule_symbols) }
-    ensures { result.now ≡ list_of (lists_in prepared table.now) symbol.0 }
-{
-    list_of(lists_in(prepared, table), symbol)
-}
+    // The rules.
+    pub fn rules(&self) -> &'a [u16]
+        ensures { result.now ≡ (contract_of self.now).transformation.rules }
+    {
+        let table = self.table;
+        &table[self.parts.nodes..self.parts.rules]
+    }
 
-// From where on the lists have the row after each input row.
-pub fn nexts_in(prepared: Prepared, table: &[u16]) -> usize
-    requires { Ready prepared table.now }
-    ensures { result ≡ next_rows (contract_in prepared table.now).transformation.rules }
-{
-    rows_from(rules_in(prepared, table))
+    // The lists by symbol.
+    pub fn lists(&self) -> &'a [u16]
+        ensures { result.now ≡ lists_of self.now }
+    {
+        let table = self.table;
+        &table[self.parts.rules..]
+    }
+
+    // The list of the symbol: the nodes that its rules reach.
+    pub fn list(&self, symbol: Symbol) -> &'a [u16]
+        requires { symbol.0 < rule_symbols }
+        ensures { result.now ≡ list_of (lists_of self.now) symbol.0 }
+    {
+        list_of(self.lists(), symbol)
+    }
+
+    // From where on the lists have the row after each input row.
+    pub fn nexts(&self) -> usize
+        ensures { result ≡ next_rows (contract_of self.now).transformation.rules }
+    {
+        rows_from(self.rules())
+    }
 }

@@ -65,3 +65,5 @@ module _ {value : ℕ} {bytes : List ℕ} where
       ∙ ap (λ (x : ℕ). x ∷ drop (suc first) bytes) same
       ∙ sym (rw (lt-ltb rest 10 h))
       ∙ k.so_far
+
+pub ruleset columns = (column_start, column_end)

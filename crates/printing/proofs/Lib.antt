@@ -1,3 +1,3 @@
 -- Laws that the functions' proofs cite.
 pub mod Columns
-pub mod Runs
+pub mod Texts

@@ -1,52 +1,46 @@
-// Text put behind text in a lent buffer. What finds no room is left out, and the place is then the buffer's end.
-ghost use Rattle.std.specs.Prelude.{◌≡◌, ◌+◌, min, length, set};
-ghost use Rattle.std.proofs.lemmas.List.Edits.{sets};
+// Text put behind text on a page. What finds no room is left out, and the page is then full.
+ghost use Rattle.std.specs.Prelude.{◌∷◌, []};
 ghost use Rattle.printing.specs.Decimals.{decimal};
-ghost use Rattle.printing.specs.Appending.{place_after};
+ghost use Rattle.printing.specs.Appending.{Appends};
 
 use crate::decimals::to_decimal;
+use crate::pages::Page;
 
-// One byte.
-pub fn append_byte(out: &mut [u8], at: usize, b: u8) -> usize
-    ensures value { result ≡ place_after out.old at 1 }
-    ensures out_after { out.new ≡ set out.old at b }
-{
-    if at < out.len() {
-        out[at] = b;
-        return at + 1;
+impl Page<'_> {
+    // No text: a place behind the end becomes the end.
+    pub fn clip(&mut self)
+        ensures { Appends self.old self.new [] }
+    {
+        self.at = self.at.min(self.out.len());
     }
-    out.len()
-}
 
-// A place, or the end where it lies behind that.
-pub fn clipped(at: usize, end: usize) -> usize
-    ensures { result ≡ min at end }
-{
-    if at < end { at } else { end }
-}
-
-// Bytes.
-pub fn append(out: &mut [u8], at: usize, bytes: &[u8]) -> usize
-    ensures value { result ≡ place_after out.old at (length bytes.now) }
-    ensures out_after { out.new ≡ sets out.old at bytes.now }
-{
-    let mut place = clipped(at, out.len());
-    let mut i = 0;
-    while i < bytes.len() {
-        let b = bytes[i];
-        place = append_byte(out, place, b);
-        i += 1;
+    // One byte.
+    pub fn push(&mut self, b: u8)
+        ensures { Appends self.old self.new (b ∷ []) }
+    {
+        if self.at < self.out.len() {
+            self.out[self.at] = b;
+            self.at += 1;
+        } else {
+            self.at = self.out.len();
+        }
     }
-    place
-}
 
-// A number in decimal.
-pub fn append_decimal(out: &mut [u8], at: usize, value: u64) -> usize
-    ensures value { result ≡ place_after out.old at (length (decimal value)) }
-    ensures out_after { out.new ≡ sets out.old at (decimal value) }
-{
-    let digits = to_decimal(value);
-    let first = digits.first;
-    let bytes = digits.bytes;
-    append(out, at, &bytes[first..])
+    // Bytes.
+    #[tactic(auto, using(crate::proofs::Texts::appends_all))]
+    pub fn append(&mut self, bytes: &[u8])
+        ensures { Appends self.old self.new bytes.now }
+    {
+        self.clip();
+        for &b in bytes {
+            self.push(b);
+        }
+    }
+
+    // A number in decimal.
+    pub fn append_decimal(&mut self, value: u64)
+        ensures { Appends self.old self.new (decimal value) }
+    {
+        self.append(to_decimal(value).as_slice());
+    }
 }

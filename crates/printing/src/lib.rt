@@ -1,5 +1,6 @@
-// Text that is printed: numbers in decimal, and text put behind text in a lent buffer.
+// Text that is printed: numbers in decimal, and text put behind text on a page, which is a lent buffer.
 #![tactic(auto)]
 
 pub mod appending;
 pub mod decimals;
+pub mod pages;

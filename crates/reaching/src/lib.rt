@@ -13,19 +13,20 @@ ghost use Rattle.reaching.specs.Listing.{Listing, SymbolListed, ListedTo};
 use chains::{
     LISTS, chain_rows, chain_rules, first_rule, has_rules, rows_from, rule_after, store_list,
 };
-use lanes::{NODES, RULE_SYMBOLS, entry_of, place};
+use lanes::{NODES, RULE_SYMBOLS, entry_of};
 use tables::{Symbol, node_at, reference_count, rule_at};
 
 // A contract of few nodes has a small room for marks, so that little is cleared.
 const FEW_NODES: usize = 16;
 
 // Marks node n, where it is used.
+#[tactic(auto, unfolding(crate::specs::Marks::marked_if))]
 fn mark(marks: &mut [u16], used: bool, n: u16)
     requires { used ≡ true → n < length marks.old }
     ensures { marks.new ≡ marked_if used marks.old n }
 {
     if used {
-        marks[place(n)] = 1;
+        marks[usize::from(n)] = 1;
     }
 }
 
@@ -47,9 +48,7 @@ fn mark_all_referred(counts: &[u16], nodes: &[u16], marks: &mut [u16])
     requires { GoodNodes counts.now nodes.now × (node_count nodes.now ≤ length marks.old) }
     ensures { Closed counts.now nodes.now 0 marks.old marks.new }
 {
-    let mut n = nodes.len() / 5;
-    while 0 < n {
-        n -= 1;
+    for n in (0..nodes.len() / 5).rev() {
         mark_referred(counts, nodes, marks, n);
     }
 }
@@ -63,7 +62,8 @@ fn mark_rule(rules: &[u16], marks: &mut [u16], r: usize)
     mark(marks, true, rule.node);
 }
 
-// Marks the nodes of the rules for the symbol: the rules in the symbol's chain.
+// Marks the nodes of the rules for the symbol: the rules in the symbol's chain. The chain, and no count, tells the next rule: an iterator of
+// it would need an own type with its laws for this one line.
 fn mark_rules(rules: &[u16], lists: &[u16], symbol: Symbol, marks: &mut [u16])
     requires { ((r : ℕ) → r < rule_count rules.now → (rule_at rules.now r).node < length marks.old) × RulesChained rules.now lists.now × (next_rows rules.now ≤ length lists.now) × (symbol.0 < rule_symbols) }
     ensures { RulesMarked rules.now symbol.0 (rule_count rules.now) marks.new }
@@ -76,47 +76,36 @@ fn mark_rules(rules: &[u16], lists: &[u16], symbol: Symbol, marks: &mut [u16])
     }
 }
 
-// One for a mark.
-fn count_mark(mark: u16) -> usize
-    ensures { result ≡ counted mark }
-{
-    if mark == 1 {
-        return 1;
-    }
-    0
-}
-
 // Lists the marked nodes below `count` from a place on, and returns how many they are.
 fn list_marked(marks: &[u16], count: usize, lists: &mut [u16], start: usize) -> usize
     requires { (count ≤ most_nodes) × (count ≤ length marks.now) × (start + count ≤ length lists.old) }
     ensures { Listing marks.now lists.old lists.new start count result }
 {
     let mut listed: usize = 0;
-    let mut n: usize = 0;
-    while n < count {
+    for n in 0..count {
         lists[start + listed] = entry_of(n);
-        listed += count_mark(marks[n]);
-        n += 1;
+        listed += usize::from(marks[n] == 1);
     }
     listed
 }
 
-// Lists the nodes that the rules for a symbol reach, with room for marks, and returns how many they are.
-fn list_reached(
+// Lists the nodes that the rules for a symbol reach, with room for so many marks, and returns how many they are. The tables are an argument
+// each: a struct could not hold by a ghost field that their nodes are good, which is no proposition, as it names a count of symbols.
+fn list_reached<const ROOM: usize>(
     counts: &[u16],
     nodes: &[u16],
     rules: &[u16],
     symbol: Symbol,
-    marks: &mut [u16],
     lists: &mut [u16],
     start: usize,
 ) -> usize
-    requires { GoodNodes counts.now nodes.now × RulesGood nodes.now rules.now × (symbol.0 < rule_symbols) × RulesChained rules.now lists.old × (next_rows rules.now ≤ start) × (start + node_count nodes.now ≤ length lists.old) × (node_count nodes.now ≤ length marks.old) }
+    requires { GoodNodes counts.now nodes.now × RulesGood nodes.now rules.now × (symbol.0 < rule_symbols) × RulesChained rules.now lists.old × (next_rows rules.now ≤ start) × (start + node_count nodes.now ≤ length lists.old) × (node_count nodes.now ≤ ROOM) × (ROOM ≤ most_nodes) }
     ensures { SymbolListed counts.now nodes.now rules.now symbol.0 start lists.old lists.new result }
 {
-    mark_rules(rules, lists, symbol, marks);
-    mark_all_referred(counts, nodes, marks);
-    list_marked(marks, nodes.len() / 5, lists, start)
+    let mut marks = [0u16; ROOM];
+    mark_rules(rules, lists, symbol, &mut marks);
+    mark_all_referred(counts, nodes, &mut marks);
+    list_marked(&marks, nodes.len() / 5, lists, start)
 }
 
 // Lists the nodes that the rules for a symbol reach, and returns how many they are. There is room for the marks of few nodes
@@ -132,15 +121,13 @@ fn list_symbol(
     requires { GoodNodes counts.now nodes.now × RulesGood nodes.now rules.now × (symbol.0 < rule_symbols) × RulesChained rules.now lists.old × (next_rows rules.now ≤ start) × (start + node_count nodes.now ≤ length lists.old) }
     ensures { SymbolListed counts.now nodes.now rules.now symbol.0 start lists.old lists.new result }
 {
-    if has_rules(rules, lists, symbol) {
-        if nodes.len() / 5 <= FEW_NODES {
-            let mut marks = [0u16; FEW_NODES];
-            return list_reached(counts, nodes, rules, symbol, &mut marks, lists, start);
-        }
-        let mut marks = [0u16; NODES];
-        return list_reached(counts, nodes, rules, symbol, &mut marks, lists, start);
+    if !has_rules(rules, lists, symbol) {
+        0
+    } else if nodes.len() / 5 <= FEW_NODES {
+        list_reached::<FEW_NODES>(counts, nodes, rules, symbol, lists, start)
+    } else {
+        list_reached::<NODES>(counts, nodes, rules, symbol, lists, start)
     }
-    0
 }
 
 // Lists the nodes that each symbol's rules reach, one list after another from a place on, and returns where they end.
@@ -155,12 +142,11 @@ fn list_nodes(
     ensures { ListedTo counts.now nodes.now rules.now start rule_symbols result lists.old lists.new }
 {
     let mut end: usize = start;
-    let mut s: u16 = 0;
-    while place(s) < RULE_SYMBOLS {
-        let count = list_symbol(counts, nodes, rules, Symbol(s), lists, end);
-        store_list(lists, Symbol(s), end, count);
+    for s in 0..RULE_SYMBOLS {
+        let symbol = Symbol(s as u16);
+        let count = list_symbol(counts, nodes, rules, symbol, lists, end);
+        store_list(lists, symbol, end, count);
         end += count;
-        s += 1;
     }
     end
 }

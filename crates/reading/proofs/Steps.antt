@@ -26,9 +26,10 @@ reached_end S xs due at so h =
     sym (so ∙ ap (λ (n : ℕ). leading_from S n at (drop at xs)) e ∙ leading_done S at (drop at xs))
 
 module _ (S : ℕ) (xs : List ℕ) (due at : ℕ) (so : Reached S xs due at) (more : 1 ≤ due) where
-  pub reached_short : length xs ≤ at → faulty at ≡ leading S xs
-  reached_short h =
-      sym (so ∙ ap (λ (ys : List ℕ). leading_from S due at ys) (drop_of_length-le xs h) ∙ leading_short S at due more)
+  pub reached_short : at ≡ length xs → faulty (length xs) ≡ leading S xs
+  reached_short e =
+      let h : length xs ≤ at = omega arith in
+      rw (← e) (sym (so ∙ ap (λ (ys : List ℕ). leading_from S due at ys) (drop_of_length-le xs h) ∙ leading_short S at due more))
 
   module _ (here : at < length xs) where
     next : leading S xs ≡ leading_from S due at (get_or xs at 0 ∷ drop (suc at) xs)

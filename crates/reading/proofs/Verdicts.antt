@@ -2,6 +2,7 @@
 use mathlib.Core.Path.{◌≡◌, refl, ap, sym, ◌∙◌}
 use mathlib.Core.Bool.{Bool, true, false, ◌&&◌}
 use mathlib.Core.List.{List}
+use Rattle.std.specs.Prelude.{Result, Ok, Err, MatchResult, IsErrAnd}
 use Prim.Native.Nat.{ℕ, ◌≤◌, min}
 use native.Mathlib.Omega.{arith}
 use borrow.Author.Tests.{ltb-true, ltb-false, lt-ltb, le-ltb}
@@ -11,6 +12,8 @@ use Rattle.foundation.specs.Lists.{take_clipped}
 use Rattle.model.specs.Answers.{fine, refused, refuse_if, ◌then◌}
 use Rattle.model.specs.Documents as model
 use Rattle.model.specs.Documents.{most_numbers, leading, numbers_taken, verdict_on, leading_verdict}
+use Rattle.answers.specs.declared.DocumentFault.{DocumentFault}
+use Rattle.reading.specs.Answers.{leading_of, fault_verdict, reading_verdict, taken_by_reading}
 use Rattle.model.proofs.Laws.Rules.{both_true}
 use Rattle.model.proofs.Laws.Tests.{and_right}
 
@@ -34,6 +37,22 @@ module _ (n at most : ℕ) where
       go : (last : Bool) → eqb at most_numbers ≡ last → refused 12 at ≡ verdict_on n (model.faulty at)
       go false t = rw t
       go true t = rw (t, le-ltb most_numbers n (omega (arith, ltb-false most n (and_right _ _ e t))))
+
+-- a reading whose fault is told: `Said place fault` is what is known of the fault made of a place
+abbrev pub ToldBy : (ℕ → DocumentFault → Type 0) → Result ℕ ℕ → Result ℕ DocumentFault → Type 0
+ToldBy Said r told = MatchResult r (λ taken. told ≡ Ok taken) (λ place. IsErrAnd told (Said place))
+
+pub told_verdict : (n : ℕ) (Said : ℕ → DocumentFault → Type 0) (r : Result ℕ ℕ) (told : Result ℕ DocumentFault) → ToldBy Said r told
+    → ((place : ℕ) (fault : DocumentFault) → Said place fault → fault_verdict fault ≡ verdict_on n (model.faulty place))
+    → reading_verdict told ≡ verdict_on n (leading_of r)
+told_verdict n Said (Ok taken) told e right = rw e (tree_there n taken)
+told_verdict n Said (Err place) (Err fault) said right = right place fault said
+told_verdict n Said (Err place) (Ok _) e right = elim e [ ]
+
+pub told_taken : (Said : ℕ → DocumentFault → Type 0) (r : Result ℕ ℕ) (told : Result ℕ DocumentFault) → ToldBy Said r told → taken_by_reading told ≡ model.taken_by_leading (leading_of r)
+told_taken Said (Ok taken) told e = rw e
+told_taken Said (Err place) (Err fault) said = refl
+told_taken Said (Err place) (Ok _) e = elim e [ ]
 
 module _ (S : ℕ) (xs : List ℕ) (end : ℕ) (l : model.Leading) (looked : end ≡ min most_numbers (length xs)) (begins : leading S (take end xs) ≡ l) where
   pub read_begins : model.reading S xs ≡ l

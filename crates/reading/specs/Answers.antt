@@ -1,18 +1,15 @@
 -- The readings and verdicts of the model that the code's answers stand for.
-use Rattle.std.specs.Prelude.{◌≡◌, refl, ℕ}
+use Rattle.std.specs.Prelude.{◌≡◌, refl, ℕ, Result, Ok, Err}
 use Rattle.model.specs.Answers.{Verdict, fine, refused, Answer, refusal, given}
 use Rattle.model.specs.Documents as model
 use Rattle.answers.specs.declared.DocumentFault.{DocumentFault}
 use Rattle.answers.specs.declared.DocumentFault.TheVariants as fault
 use Rattle.answers.specs.Numbers.{document_refusal}
-use Rattle.reading.specs.declared.Leading.{Leading}
-use Rattle.reading.specs.declared.Leading.TheVariants as leading
-use Rattle.reading.specs.declared.Reading.{Reading}
-use Rattle.reading.specs.declared.Reading.TheVariants as reading
 
-abbrev pub leading_of : Leading → model.Leading
-leading_of (leading.Ends at) = model.ends at
-leading_of (leading.Faulty at) = model.faulty at
+-- how many numbers the leading tree has, or the place of the fault
+abbrev pub leading_of : Result ℕ ℕ → model.Leading
+leading_of (Ok at) = model.ends at
+leading_of (Err at) = model.faulty at
 
 -- what is wrong with a document, by the number of a tree without end and the number of a fault
 abbrev pub document_verdict : (endless faulty : ℕ) → DocumentFault → Verdict
@@ -23,14 +20,14 @@ document_verdict endless faulty (fault.Number place) = refused faulty place
 abbrev pub fault_verdict : DocumentFault → Verdict
 fault_verdict f = document_verdict 11 12 f
 
-abbrev pub reading_verdict : Reading → Verdict
-reading_verdict (reading.Takes taken) = fine
-reading_verdict (reading.Refused fault) = fault_verdict fault
+abbrev pub reading_verdict : Result ℕ DocumentFault → Verdict
+reading_verdict (Ok taken) = fine
+reading_verdict (Err fault) = fault_verdict fault
 
 -- how many numbers were taken
-abbrev pub taken_by_reading : Reading → ℕ
-taken_by_reading (reading.Takes taken) = taken
-taken_by_reading (reading.Refused fault) = 0
+abbrev pub taken_by_reading : Result ℕ DocumentFault → ℕ
+taken_by_reading (Ok taken) = taken
+taken_by_reading (Err fault) = 0
 
 -- a fault is answered by its refusal, whatever else the answer holds
 pub fault_given : {A : Type 0} (f : DocumentFault) (with-answer : Answer → A) (a : A)

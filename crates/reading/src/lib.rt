@@ -12,34 +12,10 @@ ghost use Rattle.reading.specs.Answers.{leading_of, fault_verdict, reading_verdi
 ghost use Rattle.reading.specs.Ends.{EndsFrom};
 
 use answers::DocumentFault;
-use tables::{Symbol, symbol_wrong};
+use tables::{Symbol, is_none_of};
 
 // The most numbers of a document.
 const MOST_NUMBERS: usize = 1023;
-
-// How a stretch of numbers begins.
-#[derive(Clone, Copy)]
-pub enum Leading {
-    // With a tree of so many numbers.
-    Ends(usize),
-    // With no tree: the place of the fault.
-    Faulty(usize),
-}
-
-// What reading the document that numbers begin with says.
-#[derive(Clone, Copy)]
-pub enum Reading {
-    // Its tree takes so many numbers.
-    Takes(usize),
-    Refused(DocumentFault),
-}
-
-// Where a tree ends, to be used as a place.
-fn wide(end: u16) -> usize
-    ensures { result ≡ end }
-{
-    end as usize
-}
 
 // How many trees are still to come after a symbol, where `due` were to come before it.
 fn due_after(due: usize, symbol: Symbol) -> usize
@@ -52,35 +28,29 @@ fn due_after(due: usize, symbol: Symbol) -> usize
     due + 1
 }
 
-// The tree that the numbers begin with, over the symbols below `symbols`.
-pub fn leading_tree(symbols: usize, numbers: &[u16]) -> Leading
+// The tree that the numbers begin with, over the symbols below `symbols`: how many numbers it has, or the place of the fault.
+pub fn leading_tree(symbols: usize, numbers: &[u16]) -> Result<usize, usize>
     ensures { leading_of result ≡ leading symbols numbers.now }
 {
     let mut due = 1;
-    let mut at = 0;
-    while 0 < due {
-        if numbers.len() <= at {
-            return Leading::Faulty(at);
-        }
-        let symbol = Symbol(numbers[at]);
-        if symbol_wrong(symbols, symbol) {
-            return Leading::Faulty(at);
+    for (at, &number) in numbers.iter().enumerate() {
+        let symbol = Symbol(number);
+        if is_none_of::<Symbol>(symbols, symbol) {
+            return Err(at);
         }
         due = due_after(due, symbol);
-        at += 1;
+        if due == 0 {
+            return Ok(at + 1);
+        }
     }
-    Leading::Ends(at)
+    Err(numbers.len())
 }
 
 // How many numbers are looked at: the first 1,023, or all where there are fewer.
 fn looked_at(length: usize) -> usize
     ensures { result ≡ min most_numbers length }
 {
-    if length < MOST_NUMBERS {
-        length
-    } else {
-        MOST_NUMBERS
-    }
+    length.min(MOST_NUMBERS)
 }
 
 // What is refused where the numbers looked at have a fault: 11 if they go on to the last of them and more follow, otherwise 12.
@@ -93,27 +63,15 @@ fn fault_of(length: usize, place: usize) -> DocumentFault
     DocumentFault::Number(place)
 }
 
-// Reads the document that the numbers begin with. What stands behind its tree, or behind the first 1,023 numbers, is not looked at.
-pub fn read(symbols: usize, numbers: &[u16]) -> Reading
+// Reads the document that the numbers begin with: how many numbers its tree takes. What stands behind its tree, or behind the first 1,023
+// numbers, is not looked at.
+pub fn read(symbols: usize, numbers: &[u16]) -> Result<usize, DocumentFault>
     ensures result_value { reading_verdict result ≡ leading_verdict symbols numbers.now }
     ensures result_value_2 { taken_by_reading result ≡ numbers_taken symbols numbers.now }
 {
     let length = numbers.len();
     let end = looked_at(length);
-    match leading_tree(symbols, &numbers[..end]) {
-        Leading::Ends(taken) => Reading::Takes(taken),
-        Leading::Faulty(place) => Reading::Refused(fault_of(length, place)),
-    }
-}
-
-// How many numbers were taken; none where the document is refused.
-pub fn taken_of(reading: Reading) -> usize
-    ensures { result ≡ taken_by_reading reading }
-{
-    match reading {
-        Reading::Takes(taken) => taken,
-        Reading::Refused(_) => 0,
-    }
+    leading_tree(symbols, &numbers[..end]).map_err(|place| fault_of(length, place))
 }
 
 // Where the right child of place i starts: where the left child ends, which starts at the next place.
@@ -121,7 +79,7 @@ pub fn right_child(ends: &[u16], i: usize) -> usize
     requires { i + 1 < length ends.now }
     ensures { result ≡ get_or ends.now (i + 1) 0 }
 {
-    wide(ends[i + 1])
+    usize::from(ends[i + 1])
 }
 
 // Where the tree of place i ends, from where those of later places do.
@@ -144,9 +102,7 @@ pub fn fill_ends(numbers: &[u16], ends: &mut [u16])
     requires numbers_len_bound { (length numbers.now ≤ most_numbers) × (length numbers.now ≤ length ends.old) }
     ensures { EndsFrom 0 numbers.now ends.new }
 {
-    let mut i = numbers.len();
-    while 0 < i {
-        i -= 1;
+    for i in (0..numbers.len()).rev() {
         let end = end_at(numbers, i, ends);
         ends[i] = end;
     }

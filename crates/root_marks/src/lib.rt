@@ -17,7 +17,7 @@ pub fn has_one_root(kind: &[u64; 6]) -> bool
     (kind[0] >> ROOT_BIT) & 1 == 1
 }
 
-// Whether a kind is the empty forest's.
+// Whether a kind is the empty forest's. The two tests are a line each: a third function, of the bit, would be no shorter.
 fn is_empty(kind: &[u64; 6]) -> bool
     ensures { result ≡ (marks_in kind.now).is_empty }
 {
@@ -32,6 +32,7 @@ pub fn empty_mark() -> u64
 }
 
 // The states of the empty forest, with its mark.
+#[tactic(auto, unfolding(model::specs::Kinds::with_marks))]
 pub fn marked_empty(states: u64) -> u64
     requires { states < 2 ^ root_bit }
     ensures { result ≡ with_marks empty_marks states }
@@ -43,13 +44,11 @@ pub fn marked_empty(states: u64) -> u64
 pub fn root_mark(one_root: bool) -> u64
     ensures { (result ≡ one_if one_root * 2 ^ root_bit) × (result ≤ 2 ^ root_bit) }
 {
-    if one_root {
-        return 1u64 << ROOT_BIT;
-    }
-    0
+    u64::from(one_root) << ROOT_BIT
 }
 
 // The states of a symbol over two kinds, with its mark: one root, where the right kind is the empty forest's.
+#[tactic(auto, unfolding(model::specs::Kinds::with_marks))]
 pub fn marked_over(states: u64, right: &[u64; 6]) -> u64
     requires { states < 2 ^ root_bit }
     ensures { result ≡ with_marks (marks_over (marks_in right.now)) states }

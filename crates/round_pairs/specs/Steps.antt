@@ -1,17 +1,17 @@
 -- Where the loops of a round stand, and what each step does: a visited pair is one combination of the round, rows passed
 -- over are a stretch of combinations that add nothing.
-use Rattle.std.specs.Prelude.{◌≡◌, refl, List, [], ◌∷◌, ◌++◌, Bool, true, false, ℕ, zero, suc, ◌+◌, ◌-◌, ◌≤◌, ◌<◌, ltb, length, get_or}
-use Rattle.std.proofs.Common.{ap, subst, sym, ◌∙◌, zero-add, suc-add, add-one, arith, ltb-true}
+use Rattle.std.specs.Prelude.{◌≡◌, refl, List, [], ◌∷◌, ◌++◌, Bool, true, false, ℕ, suc, ◌+◌, ◌≤◌, ◌<◌, ltb, length, get_or, Result}
+use Rattle.std.proofs.Common.{ap, subst, sym, ◌∙◌, add-one, arith, ltb-true}
 use Rattle.foundation.specs.Tests.{choose}
 use Rattle.foundation.specs.Words.{bit}
 use Rattle.model.specs.Tables.{Contract}
 use Rattle.model.specs.Kinds.{next_kind}
-use Rattle.model.specs.Rounds.{TreeAutomaton, Listed, kind_automaton, ListedKind, kind_at, combinations, round_to, rounds}
+use Rattle.model.specs.Rounds.{kind_automaton, ListedKind, kind_at, combinations, round_to, rounds}
 use Rattle.model.proofs.Laws.Established.{Established}
 use Rattle.model.proofs.Rounds.Growth.{Begins, begins_length, begins_state, middle_begins, middle_beginning, rows_begin}
 use Rattle.model.proofs.Rounds.Places.{place, place_next_left, place_next_symbol, place_below}
-use Rattle.model.proofs.Rounds.Covering.{Decides, HasState, has_later, kinds_decided}
-use Rattle.model.proofs.Rounds.Skipping.{PairListed, step, skip_right, skip_left, same_left_listed, same_right_listed}
+use Rattle.model.proofs.Rounds.Covering.{HasState, has_later, kinds_decided}
+use Rattle.model.proofs.Rounds.Skipping.{step, skip_pair, skip_right, skip_left, same_left_listed, same_right_listed}
 use Rattle.model.proofs.Rounds.Buffers.{FiveWords, beginning_five, length_next_kind}
 use Rattle.breaking.specs.Verdicts.{VerdictsOf}
 use Rattle.breaking.specs.declared.Verdicts.{Verdicts}
@@ -20,27 +20,8 @@ use Rattle.kind_slots.specs.Stored.{kind_in}
 use Rattle.kind_lists.specs.Held.{kind_held}
 use Rattle.kind_lists.specs.Outcomes.{Unbroken, Outcome, outcome_map}
 use Rattle.kind_lists.specs.Offers.{offered}
-use Rattle.kind_lists.specs.declared.Progress.{Progress}
-use Rattle.row_marks.specs.Marks.{NextMarked}
+use Rattle.kind_lists.specs.declared.Stop.{Stop}
 use Rattle.round_pairs.specs.declared.Round.{Round}
-
-module _ (A : TreeAutomaton) (decides : Decides A) where
-  lefts_after : (rows : List (Listed A)) (s i d : ℕ) → 1 ≤ s → d + i ≤ length rows
-      → ((k m : ℕ) → i ≤ k → k < d + i → m < length rows → PairListed A rows s k m)
-      → round_to A rows (place (length rows) s (d + i) 0) ≡ round_to A rows (place (length rows) s i 0)
-  lefts_after rows s i zero h hi listed = rw zero-add
-  lefts_after rows s i (suc d) h hi listed =
-      rw suc-add
-      (skip_left A decides rows s (d + i) h (omega arith) (λ m l. listed (d + i) m (omega arith) (omega arith) l)
-      ∙ lefts_after rows s i d h (omega arith) (λ k m p q l. listed k m p (omega arith) l))
-
-  -- the left rows from i to before k, all passed over
-  skip_lefts : (rows : List (Listed A)) (s i k : ℕ) → 1 ≤ s → i ≤ k → k ≤ length rows
-      → ((l m : ℕ) → i ≤ l → l < k → m < length rows → PairListed A rows s l m)
-      → round_to A rows (place (length rows) s k 0) ≡ round_to A rows (place (length rows) s i 0)
-  skip_lefts rows s i k h ik hk listed =
-      let q : (k - i) + i ≡ k = omega arith in
-      rw q at (lefts_after rows s i (k - i) h (omega arith) (λ l m p r b. listed l m p (omega arith) b))
 
 module _ (C : Contract) where
   -- a row makes the same kinds as an earlier one, on the left or on the right, in every list that has it
@@ -101,28 +82,27 @@ module _ (C : Contract) where
           list = subst (λ (list : List (ListedKind C)). Unbroken C r.limit n slots rows words list) (sym e) at.list;
         }
 
-    -- right rows without their mark are passed over
-    pub pass_rights : {rights : List ℕ} → RightsMarked r.stood rights → s < C.transformation.symbols → i < r.stood
-        → {k : ℕ} → NextMarked rights s j r.stood k → At r s i k n slots rows words
-    pass_rights marks h_s hi {k} m =
+    -- a right row without its mark is passed over
+    pub pass_right : {rights : List ℕ} → RightsMarked r.stood rights → s < C.transformation.symbols → i < r.stood → j < r.stood
+        → bit (get_or rights j 0) s ≡ false → At r s i (j + 1) n slots rows words
+    pass_right marks h_s hi hj unmarked =
         let counted = at.standing.counted in
-        moved s i k at.symbol
-        (skip_right (kind_automaton C) (kinds_decided C) stood s i j k at.symbol (omega arith) m.after (omega (arith, m.within))
-        (λ x from below.
-        let (e, le, q) = marks.same s x at.symbol h_s (omega (arith, m.within)) (m.passed x from below) in
-        same_right_listed (kind_automaton C) (kinds_decided C) stood s x e at.symbol le (omega (arith, m.within)) (q r.height (omega (arith, m.within))) i (omega arith)))
+        let (e, le, q) = marks.same s j at.symbol h_s hj unmarked in
+        moved s i (j + 1) at.symbol
+        (rw (add-one j)
+        (skip_pair (kind_automaton C) (kinds_decided C) stood s i j at.symbol (omega arith) (omega arith)
+        (same_right_listed (kind_automaton C) (kinds_decided C) stood s j e at.symbol le (omega arith) (q r.height (omega arith)) i (omega arith))))
 
-    -- left rows without their mark are passed over whole
-    pub pass_lefts : {lefts : List ℕ} → LeftsMarked r.stood lefts → j ≡ 0 → s < C.transformation.symbols
-        → {k : ℕ} → NextMarked lefts s i r.stood k → At r s k 0 n slots rows words
-    pass_lefts marks z h_s {k} m =
+    -- a left row without its mark is passed over with all right rows
+    pub pass_left : {lefts : List ℕ} → LeftsMarked r.stood lefts → j ≡ 0 → s < C.transformation.symbols → i < r.stood
+        → bit (get_or lefts i 0) s ≡ false → At r s (i + 1) 0 n slots rows words
+    pass_left marks z h_s hi unmarked =
         let counted = at.standing.counted in
-        moved s k 0 at.symbol
-        (rw z
-        (skip_lefts (kind_automaton C) (kinds_decided C) stood s i k at.symbol m.after (omega (arith, m.within))
-        (λ x y from below hy.
-        let (e, le, q) = marks.same s x at.symbol h_s (omega (arith, m.within)) (m.passed x from below) in
-        same_left_listed (kind_automaton C) (kinds_decided C) stood s x e at.symbol le (omega (arith, m.within)) (q r.height (omega (arith, m.within))) y hy)))
+        let (e, le, q) = marks.same s i at.symbol h_s hi unmarked in
+        moved s (i + 1) 0 at.symbol
+        (rw (z, add-one i)
+        (skip_left (kind_automaton C) (kinds_decided C) stood s i at.symbol (omega arith)
+        (same_left_listed (kind_automaton C) (kinds_decided C) stood s i e at.symbol le (omega arith) (q r.height (omega arith)))))
 
     -- pairs of rows that stood in the round before are passed over
     pub pass_old : j ≡ 0 → s < C.transformation.symbols → i < r.before → At r s i r.before n slots rows words
@@ -199,7 +179,7 @@ module _ (C : Contract) where
 
       pub visit : Established C → (v : Verdicts) → VerdictsOf C.input.marks C.output.marks v
           → (kind : List ℕ) → kind ≡ next_kind C s (kind_in words i) (kind_in words j) ++ (0 ∷ [])
-          → (p : Progress) (slots' rows' words' : List ℕ) → Becomes (offering v r.limit n s i j kind slots rows words) p slots' rows' words'
+          → (p : Result ℕ Stop) (slots' rows' words' : List ℕ) → Becomes (offering v r.limit n s i j kind slots rows words) p slots' rows' words'
           → Outcome C (λ m. At r s i (j + 1) m slots' rows' words') r.limit (suc r.height) rows' words' p
       visit known v verdicts kind ek p slots' rows' words' b =
           let e : kind ≡ pair_kind ++ (0 ∷ []) = ek ∙ rw (row_held i hi, row_held j hj) in

@@ -1,2 +1,3 @@
--- Lemmas of the proofs: between two rounds, and from symbol to symbol.
+-- Lemmas of the proofs: a number under another name, and where the list ends.
 pub mod Laps
+pub mod Ending

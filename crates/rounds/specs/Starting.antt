@@ -1,5 +1,5 @@
 -- Round 0: the kind of the empty forest is offered to the empty list.
-use Rattle.std.specs.Prelude.{◌≡◌, List, [], ◌∷◌, ◌++◌, ℕ, length}
+use Rattle.std.specs.Prelude.{◌≡◌, List, [], ◌∷◌, ◌++◌, ℕ, length, Result}
 use Rattle.std.proofs.Math.Path.{refl}
 use Rattle.std.proofs.Common.{arith}
 use Rattle.model.specs.Tables.{Contract}
@@ -15,7 +15,7 @@ use Rattle.kind_slots.specs.Slots.{Entered}
 use Rattle.kind_lists.specs.Listing.{Room, Becomes, offering}
 use Rattle.kind_lists.specs.Outcomes.{Unbroken, Outcome, outcome_map}
 use Rattle.kind_lists.specs.Offers.{offered}
-use Rattle.kind_lists.specs.declared.Progress.{Progress}
+use Rattle.kind_lists.specs.declared.Stop.{Stop}
 use Rattle.rounds.specs.Between.{Between}
 
 module _ (C : Contract) where
@@ -49,7 +49,7 @@ module _ (C : Contract) where
 
   pub begun : Established C → (v : Verdicts) → VerdictsOf C.input.marks C.output.marks v → {limit : ℕ} {slots rows words : List ℕ} → Room limit 0 rows words
       → Entered words 0 slots → (kind : List ℕ) → kind ≡ empty_kind C ++ (0 ∷ [])
-      → (p : Progress) (slots' rows' words' : List ℕ) → Becomes (offering v limit 0 0 0 0 kind slots rows words) p slots' rows' words'
+      → (p : Result ℕ Stop) (slots' rows' words' : List ℕ) → Becomes (offering v limit 0 0 0 0 kind slots rows words) p slots' rows' words'
       → Outcome C (λ n. Between C limit 0 0 n slots' rows' words') limit 0 rows' words' p
   begun known v verdicts {limit} {slots} {rows} {words} room entered kind ek p slots' rows' words' b =
       outcome_map C (λ n u. first_between n (rw round_0 at u)) limit 0 rows' words' p

@@ -1,29 +1,28 @@
 // The rounds, which list the kinds of a prepared contract. Round 0 lists the kind of the empty forest. Each later one goes through
-// the symbols, until one adds nothing.
+// the symbols, until one adds nothing. The list's slots, rows and words stay parameters, as in `kind_lists::listing::offer`.
 #![tactic(auto)]
 
 ghost use Rattle.std.specs.Prelude.{◌≤◌};
-ghost use Rattle.classes.specs.Masks.{Covered};
-ghost use Rattle.prepared.specs.Parts.{contract_in, Ready};
+ghost use Rattle.prepared.specs.Contract.{contract_of};
 ghost use Rattle.kind_slots.specs.Slots.{Entered};
 ghost use Rattle.kind_lists.specs.Listing.{Room};
 ghost use Rattle.round_pairs.specs.Stretches.{Starts, Comes, AllMarked};
 ghost use Rattle.rounds.specs.Between.{Between};
-ghost use Rattle.rounds.specs.Lists.{Begun, Lists};
+ghost use Rattle.rounds.specs.Lists.{Begun, Grows, Lists};
 
-use kind_lists::closing::ending_of;
+use kind_lists::closing::stop_after;
 use kind_lists::listing::offer;
-use kind_lists::{ListEnd, Progress};
+use kind_lists::{ListStop, Stop};
 use kinds::empty_of;
+use masks::Masked;
 use prepared::Prepared;
 use round_pairs::{Place, Round, left_rows};
-use row_marks::{mark_rows, next_marked, symbol_of};
-use tables::Symbol;
+use row_marks::{mark_rows, symbol_of};
+use tables::{Row, Symbol};
 
 // One round: all symbols.
 fn one_round(
-    prepared: Prepared,
-    table: &[u16],
+    prepared: &Prepared,
     round: Round,
     lefts: &[u16; 512],
     rights: &[u16; 512],
@@ -31,149 +30,128 @@ fn one_round(
     rows: &mut [u16],
     words: &mut [u64],
     room: &mut [u64; 256],
-) -> Progress
-    requires { Ready prepared table.now × Starts prepared table.now round slots.old rows.old words.old × AllMarked prepared table.now round lefts.now rights.now }
-    ensures { Comes prepared table.now round prepared.symbols 0 0 slots.new rows.new words.new result }
+) -> Result<usize, Stop>
+    requires { Starts prepared.now round slots.old rows.old words.old × AllMarked prepared.now round lefts.now rights.now }
+    ensures { Comes prepared.now round prepared.now.parts.symbols 0 0 slots.new rows.new words.new result }
 {
-    let symbols = prepared.symbols;
-    let stood = round.stood;
-    let mut total: usize = stood;
-    let mut number: usize = 1;
-    while number < symbols {
-        let symbol = symbol_of(number);
+    let mut total = round.stood;
+    for number in 1..prepared.parts.symbols {
         let here = Place {
-            symbol: symbol,
-            left: next_marked(lefts, symbol, 0, stood),
-            right: 0,
+            symbol: symbol_of(number),
+            left: 0,
             count: total,
         };
-        let step = left_rows(
-            prepared, table, round, here, lefts, rights, slots, rows, words, room,
-        );
-        let Progress::Going(next) = step else {
-            return step;
-        };
-        total = next;
-        number += 1;
+        total = left_rows(
+            prepared, round, here, lefts, rights, slots, rows, words, room,
+        )?;
     }
-    Progress::Going(total)
+    Ok(total)
+}
+
+// One round, and where it stops, why the list ends: all trees up to the height of the round before have their kinds in it.
+fn next_round(
+    prepared: &Prepared,
+    round: Round,
+    lefts: &[u16; 512],
+    rights: &[u16; 512],
+    slots: &mut [u32; 1024],
+    rows: &mut [u16],
+    words: &mut [u64],
+    room: &mut [u64; 256],
+) -> Result<usize, ListStop>
+    requires { Starts prepared.now round slots.old rows.old words.old × AllMarked prepared.now round lefts.now rights.now }
+    ensures { Grows prepared.now round slots.new rows.new words.new result }
+{
+    let step = one_round(prepared, round, lefts, rights, slots, rows, words, room);
+    step.map_err(|stop| stop_after(round.height, stop))
 }
 
 // The rounds from 1 on, over the rows of round 0, until one adds nothing. After round h the kinds of all trees up to height h are listed.
 fn all_rounds(
-    prepared: Prepared,
-    table: &[u16],
-    left_masks: &[u64; 80],
-    right_masks: &[u64; 80],
+    masked: &Masked,
     limit: usize,
     count: usize,
     slots: &mut [u32; 1024],
     rows: &mut [u16],
     words: &mut [u64],
     room: &mut [u64; 256],
-) -> ListEnd
-    requires { Ready prepared table.now × Covered (contract_in prepared table.now) left_masks.now right_masks.now × Between (contract_in prepared table.now) limit 0 0 count slots.old rows.old words.old }
-    ensures { Lists prepared table.now limit rows.new words.new result }
+) -> Result<usize, ListStop>
+    requires { Between (contract_of masked.now.prepared) limit 0 0 count slots.old rows.old words.old }
+    ensures { Lists masked.now limit rows.new words.new result }
 {
+    let prepared = &masked.prepared;
+    let symbols = prepared.parts.symbols;
     let mut lefts = [0u16; 512];
     let mut rights = [0u16; 512];
-    let mut before: usize = 0;
-    let mut stood: usize = count;
-    let mut height: usize = 0;
-    while before < stood {
+    let mut round = Round {
+        limit,
+        height: 0,
+        before: 0,
+        stood: count,
+    };
+    // Until a round adds nothing, which no range tells beforehand.
+    while round.before < round.stood {
         mark_rows(
             words,
-            left_masks,
+            &masked.left_masks,
             &mut lefts,
-            prepared.symbols,
-            before,
-            stood,
+            symbols,
+            round.before,
+            round.stood,
         );
         mark_rows(
             words,
-            right_masks,
+            &masked.right_masks,
             &mut rights,
-            prepared.symbols,
-            before,
-            stood,
+            symbols,
+            round.before,
+            round.stood,
         );
-        let round = Round {
-            limit: limit,
-            height: height,
-            before: before,
-            stood: stood,
+        let total = next_round(prepared, round, &lefts, &rights, slots, rows, words, room)?;
+        round = Round {
+            height: round.height + 1,
+            before: round.stood,
+            stood: total,
+            ..round
         };
-        let step = one_round(
-            prepared, table, round, &lefts, &rights, slots, rows, words, room,
-        );
-        let Progress::Going(total) = step else {
-            return ending_of(step, height);
-        };
-        before = stood;
-        stood = total;
-        height += 1;
     }
-    ending_of(Progress::Going(stood), height)
+    Ok(round.stood)
 }
 
 // Round 0: the kind of the empty forest is offered to the empty list.
 fn first_round(
-    prepared: Prepared,
-    table: &[u16],
+    prepared: &Prepared,
     limit: usize,
     slots: &mut [u32; 1024],
     rows: &mut [u16],
     words: &mut [u64],
     room: &mut [u64; 256],
-) -> Progress
-    requires { Ready prepared table.now × Room limit 0 rows.old words.old × Entered words.old 0 slots.old }
-    ensures { Begun prepared table.now limit slots.new rows.new words.new result }
+) -> Result<usize, ListStop>
+    requires { Room limit 0 rows.old words.old × Entered words.old 0 slots.old × (1 ≤ limit) }
+    ensures { Begun prepared.now limit slots.new rows.new words.new result }
 {
-    let kind = empty_of(prepared, table, room);
-    let verdicts = prepared.verdicts;
-    offer(
-        verdicts,
-        limit,
-        0,
-        Symbol(0),
-        0,
-        0,
-        &kind,
-        slots,
-        rows,
-        words,
-    )
+    let kind = empty_of(prepared, room);
+    let empty = Row {
+        symbol: Symbol(0),
+        left: 0,
+        right: 0,
+    };
+    let verdicts = prepared.parts.verdicts;
+    offer(verdicts, limit, 0, empty, &kind, slots, rows, words).map_err(|stop| stop_after(0, stop))
 }
 
-// Lists the kinds of a prepared contract, round by round, until the answer is known.
+// Lists the kinds of a prepared contract, round by round, until the answer is known: how many there are, where none breaks it.
 pub fn list_kinds(
-    prepared: Prepared,
-    table: &[u16],
-    left_masks: &[u64; 80],
-    right_masks: &[u64; 80],
+    masked: &Masked,
     limit: usize,
     rows: &mut [u16],
     words: &mut [u64],
-) -> ListEnd
-    requires { Ready prepared table.now × Covered (contract_in prepared table.now) left_masks.now right_masks.now × Room limit 0 rows.old words.old × (1 ≤ limit) }
-    ensures { Lists prepared table.now limit rows.new words.new result }
+) -> Result<usize, ListStop>
+    requires { Room limit 0 rows.old words.old × (1 ≤ limit) }
+    ensures { Lists masked.now limit rows.new words.new result }
 {
     let mut room = [0u64; 256];
     let mut slots = [0u32; 1024];
-    let step = first_round(prepared, table, limit, &mut slots, rows, words, &mut room);
-    let Progress::Going(count) = step else {
-        return ending_of(step, 0);
-    };
-    all_rounds(
-        prepared,
-        table,
-        left_masks,
-        right_masks,
-        limit,
-        count,
-        &mut slots,
-        rows,
-        words,
-        &mut room,
-    )
+    let count = first_round(&masked.prepared, limit, &mut slots, rows, words, &mut room)?;
+    all_rounds(masked, limit, count, &mut slots, rows, words, &mut room)
 }

@@ -1,2 +1,2 @@
--- Lemmas of the proofs: bits of marks, one more symbol, one more row.
+-- Lemmas of the proofs: one more symbol.
 pub mod MarkBits

@@ -6,7 +6,7 @@ ghost use Rattle.std.specs.Prelude.{◌≡◌, false, ◌&&◌, ◌+◌, ◌*◌
 ghost use Rattle.foundation.specs.Tests.{choose};
 ghost use Rattle.foundation.specs.Words.{bit};
 ghost use Rattle.kind_slots.specs.Stored.{padded_kind, same_words};
-ghost use Rattle.row_marks.specs.Marks.{shown, SomeEarlier, MarksOf, MarkedFrom, NextMarked};
+ghost use Rattle.row_marks.specs.Marks.{shown, SomeEarlier, MarksOf, MarkedFrom};
 
 use kind_slots::stored::{kind_at, same_words};
 use tables::Symbol;
@@ -20,26 +20,12 @@ pub fn symbol_of(number: usize) -> Symbol
 }
 
 // Whether row i is marked for the symbol.
-fn marked(firsts: &[u16; 512], i: usize, symbol: Symbol) -> bool
+#[tactic(auto, unfolding(foundation::specs::Words::bit))]
+pub fn is_marked(firsts: &[u16; 512], i: usize, symbol: Symbol) -> bool
     requires { (i < 512) × (symbol.0 < 16) }
     ensures { result ≡ bit (get_or firsts.now i 0) symbol.0 }
 {
     (firsts[i] >> symbol.0) % 2 == 1
-}
-
-// The first row from a row on that is marked for the symbol, or `stood` where none below it is.
-pub fn next_marked(firsts: &[u16; 512], symbol: Symbol, from: usize, stood: usize) -> usize
-    requires { (symbol.0 < 16) × (from ≤ stood) × (stood ≤ 512) }
-    ensures { NextMarked firsts.now symbol.0 from stood result }
-{
-    let mut i: usize = from;
-    while i < stood {
-        if marked(firsts, i, symbol) {
-            return i;
-        }
-        i += 1;
-    }
-    i
 }
 
 // What a mask shows of a kind.
@@ -68,7 +54,7 @@ fn in_class(
     requires { (5 * i + 5 ≤ length words.now) × (symbol.0 < 16) × (i < 512) }
     ensures { result ≡ (bit (get_or firsts.now i 0) symbol.0 && same_words (shown mask.now (padded_kind words.now i)) seen.now) }
 {
-    if marked(firsts, i, symbol) {
+    if is_marked(firsts, i, symbol) {
         let kind = kind_at(words, i);
         let shows = shown(mask, &kind);
         return same_words(&shows, seen);
@@ -89,22 +75,12 @@ fn is_first(
     ensures { result ≡ false → SomeEarlier words.now mask.now j }
 {
     let seen = shown(mask, kind);
-    let mut i: usize = 0;
-    while i < j {
+    for i in 0..j {
         if in_class(words, i, mask, &seen, firsts, symbol) {
             return false;
         }
-        i += 1;
     }
     true
-}
-
-// A word put some bits up, where it fits.
-fn up(word: u16, place: u16) -> u16
-    requires { (place < 16) × (word * 2 ^ place < 2 ^ 16) }
-    ensures { result ≡ word * 2 ^ place }
-{
-    word << place
 }
 
 // A symbol's bit, or nothing.
@@ -112,10 +88,7 @@ fn bit_if(test: bool, symbol: Symbol) -> u16
     requires { symbol.0 < 16 }
     ensures { result ≡ choose test (2 ^ symbol.0) 0 }
 {
-    if test {
-        return up(1, symbol.0);
-    }
-    0
+    u16::from(test) << symbol.0
 }
 
 // The symbols for which row j is the first of its class, a bit each. A mask has five words, as a kind has.
@@ -131,12 +104,10 @@ fn first_symbols(
 {
     let kind = kind_at(words, j);
     let mut marks: u16 = 0;
-    let mut number: usize = 1;
-    while number < symbols {
+    for number in 1..symbols {
         let symbol = symbol_of(number);
         let mask = kind_at(masks, number);
-        marks = marks | bit_if(is_first(words, j, &kind, &mask, firsts, symbol), symbol);
-        number += 1;
+        marks |= bit_if(is_first(words, j, &kind, &mask, firsts, symbol), symbol);
     }
     marks
 }
@@ -153,10 +124,7 @@ pub fn mark_rows(
     requires { (5 * stood ≤ length words.now) × (symbols ≤ 16) × (stood ≤ 512) × (length firsts.old ≡ 512) }
     ensures { MarkedFrom words.now masks.now symbols from stood firsts.old firsts.new }
 {
-    let mut j: usize = from;
-    while j < stood {
-        let marks = first_symbols(words, masks, firsts, symbols, j);
-        firsts[j] = marks;
-        j += 1;
+    for j in from..stood {
+        firsts[j] = first_symbols(words, masks, firsts, symbols, j);
     }
 }

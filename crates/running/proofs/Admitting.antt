@@ -1,40 +1,31 @@
 -- Admission, the tests of the buffer and of the document, and what is known of a contract and a document that pass.
-use mathlib.Core.Path.{◌≡◌, refl, ap, sym, ◌∙◌}
-use mathlib.Core.Bool.{not}
-use mathlib.Core.List.{List, [], ◌∷◌}
-use mathlib.Core.Logic.{inl, inr}
+use mathlib.Core.Path.{◌≡◌, refl, ap, sym}
+use mathlib.Core.Bool.{true, false, not}
+use mathlib.Core.List.{List}
 use Prim.Native.Nat.{ℕ, ◌%◌, ◌≤◌}
 use native.Mathlib.Omega.{arith}
 use lib.Dec.{eqb, ltb}
 use lib.ListN.{length, take}
 use borrow.Author.Tests.{ltb-false}
-use types.Run.{OneOf}
-use denote.Enum.Declared.{tag_of}
 use Rattle.foundation.specs.TestLaws.{or_second}
 use Rattle.model.specs.Tables.{Transformation, Contract}
-use Rattle.model.specs.Answers as model
 use Rattle.model.specs.Answers.{fine, Answer, admitted, refusal, refuse_if, ◌then◌, given}
 use Rattle.model.specs.Documents.{document_tree, numbers_taken, leading_tree, leading_verdict}
 use Rattle.model.specs.Rows.{row_count}
 use Rattle.model.specs.Running.{Ran, rows_wrong, run, closing, running_verdict, running}
 use Rattle.model.specs.Admission.{admission, admit}
 use Rattle.answers.specs.declared.DocumentFault.{DocumentFault}
-use Rattle.answers.specs.declared.DocumentFault.TheVariants as fault
 use Rattle.answers.specs.declared.ContractFault.{ContractFault}
 use Rattle.answers.specs.Numbers.{contract_refusal, document_refusal}
 use Rattle.model.proofs.Laws.Documents.{Document, some_number}
 use Rattle.model.proofs.Laws.Established.{Established}
-use Rattle.model.proofs.Laws.Answers.{refuse_if_fine, then_fine, given_stopped}
+use Rattle.model.proofs.Laws.Answers.{refuse_if_passed, then_passed, given_stopped}
 use Rattle.model.proofs.Laws.Admitted.{established, admit_fine}
 use Rattle.answers.proofs.Answered.{refused_as}
-use Rattle.reading.specs.Answers.{fault_given}
+use Rattle.reading.specs.Answers.{fault_verdict, fault_given}
 use Rattle.reading.specs.Taken.{TakesDocument, taken_fine, all_taken}
-use Rattle.running.specs.declared.Verdict.{Verdict}
-use Rattle.running.specs.declared.Verdict.TheVariants as verdict
-use Rattle.running.specs.Work.{verdict_of}
 use Rattle.running.specs.Places.{ReadDocument}
 use Rattle.running.specs.Promises.{Admitted, EndsWith, before_work, after_admission}
-use Rattle.running.specs.contracts.Verdict.{the_type}
 
 read_document : (S : ℕ) (numbers : List ℕ) → Document S numbers → S ≤ 16 → ReadDocument numbers
 read_document S numbers known high =
@@ -45,51 +36,44 @@ read_document S numbers known high =
       readable = known.readable;
     }
 
--- a verdict that is not fine comes first
-pub refused_first : (one : Verdict) (next : model.Verdict) → OneOf (1 ∷ 2 ∷ []) (tag_of the_type one) → verdict_of one ≡ (verdict_of one then next)
-unfolding ◌then◌
-refused_first verdict.Fine next (inl e) = absurd (omega arith)
-refused_first verdict.Fine next (inr e) = absurd (omega arith)
-refused_first verdict.Buffer next h = refl
-refused_first (verdict.Document (fault.Length numbers)) next h = refl
-refused_first (verdict.Document (fault.Number place)) next h = refl
+-- what is said before the work: the buffer is refused, the document is, or neither
+module _ (T : Transformation) (numbers buffer : List ℕ) where
+  pub buffer_refused : rows_wrong (length buffer) ≡ true → EndsWith (after_admission T numbers buffer) (refusal 9 0) buffer
+  unfolding after_admission given refuse_if ◌then◌
+  buffer_refused wrong = rw (after_admission, wrong) (record { answered = refl; left = refl })
 
--- what follows from the verdict before the work
-module _ (T : Transformation) (numbers buffer : List ℕ) (v : Verdict) (said : verdict_of v ≡ before_work T.symbols numbers (length buffer)) where
-  pub buffer_refused : v ≡ verdict.Buffer → EndsWith (after_admission T numbers buffer) (refusal 9 0) buffer
-  unfolding after_admission given
-  buffer_refused e = rw (after_admission, ← said, e) (record { answered = refl; left = refl })
+  module _ (right : rows_wrong (length buffer) ≡ false) where
+    said : before_work T.symbols numbers (length buffer) ≡ leading_verdict T.symbols numbers
+    said = then_passed _ _ (refuse_if_passed _ 9 0 right)
 
-  pub document_refused : (fault : DocumentFault) → v ≡ verdict.Document fault → EndsWith (after_admission T numbers buffer) (document_refusal fault) buffer
-  unfolding after_admission
-  document_refused fault e =
-      let ended : after_admission T numbers buffer ≡ record { answer = document_refusal fault; rows = buffer } =
-      rw (after_admission, ← said, e)
-      (fault_given fault (λ (a : Answer). record { answer = a; rows = buffer }) _) in
-      record { answered = sym (ap (λ (r : Ran). r.answer) ended); left = sym (ap (λ (r : Ran). r.rows) ended) }
-
-  -- where nothing is refused, the buffer is small and the numbers taken are a document
-  module _ (passed : v ≡ verdict.Fine) (taken : ℕ) (same : taken ≡ numbers_taken T.symbols numbers) where
-    both_fine : (refuse_if (rows_wrong (length buffer)) 9 0 ≡ fine) × (leading_verdict T.symbols numbers ≡ fine)
-    both_fine = then_fine _ _ (sym said ∙ ap verdict_of passed)
+    pub document_refused : (fault : DocumentFault) → fault_verdict fault ≡ leading_verdict T.symbols numbers
+        → EndsWith (after_admission T numbers buffer) (document_refusal fault) buffer
+    unfolding after_admission
+    document_refused fault e =
+        let ended : after_admission T numbers buffer ≡ record { answer = document_refusal fault; rows = buffer } =
+        rw (after_admission, said, ← e)
+        (fault_given fault (λ (a : Answer). record { answer = a; rows = buffer }) _) in
+        record { answered = sym (ap (λ (r : Ran). r.answer) ended); left = sym (ap (λ (r : Ran). r.rows) ended) }
 
     pub rows_few : length buffer ≤ 12288
-    rows_few = ltb-false 12288 (length buffer) (or_second (not (eqb (length buffer % 3) 0)) (ltb 12288 (length buffer)) (refuse_if_fine _ 9 0 both_fine.0))
+    rows_few = ltb-false 12288 (length buffer) (or_second (not (eqb (length buffer % 3) 0)) (ltb 12288 (length buffer)) right)
 
-    numbers-taken : TakesDocument T.symbols taken numbers
-    numbers-taken = taken_fine T.symbols taken numbers both_fine.1 same
+    -- where nothing is refused, the numbers taken are a document
+    module _ (passed : fine ≡ leading_verdict T.symbols numbers) (taken : ℕ) (same : taken ≡ numbers_taken T.symbols numbers) where
+      numbers-taken : TakesDocument T.symbols taken numbers
+      numbers-taken = taken_fine T.symbols taken numbers (sym passed) same
 
-    pub taken_there : length (take taken numbers) ≡ taken
-    taken_there = all_taken numbers-taken
+      pub taken_there : length (take taken numbers) ≡ taken
+      taken_there = all_taken numbers-taken
 
-    pub taken_read : T.symbols ≤ 16 → ReadDocument (take taken numbers)
-    taken_read high = read_document T.symbols (take taken numbers) numbers-taken.leads.document high
+      pub taken_read : T.symbols ≤ 16 → ReadDocument (take taken numbers)
+      taken_read high = read_document T.symbols (take taken numbers) numbers-taken.leads.document high
 
-    pub document_run : {answer : Answer} {o : List ℕ}
-        → EndsWith (closing (length buffer) (length (take taken numbers)) (run T (row_count buffer) (document_tree (take taken numbers)))) answer o
-        → EndsWith (after_admission T numbers buffer) answer o
-    unfolding after_admission given leading_tree
-    document_run ends = rw (after_admission, ← said, passed, ← same) (rw taken_there at ends)
+      pub document_run : {answer : Answer} {o : List ℕ}
+          → EndsWith (closing (length buffer) (length (take taken numbers)) (run T (row_count buffer) (document_tree (take taken numbers)))) answer o
+          → EndsWith (after_admission T numbers buffer) answer o
+      unfolding after_admission given leading_tree
+      document_run ends = rw (after_admission, said, ← passed, ← same) (rw taken_there at ends)
 
 -- The whole operation
 

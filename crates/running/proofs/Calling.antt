@@ -2,6 +2,7 @@
 use mathlib.Core.Path.{◌≡◌, refl, ap, sym, ◌∙◌}
 use mathlib.Core.Bool.{Bool, true, false, true≢false}
 use mathlib.Core.List.{List}
+use Rattle.std.specs.Prelude.{Option, Some, None, Err}
 use mathlib.Core.Logic.{◌⊎◌, inl, inr}
 use Prim.Native.Nat.{ℕ, zero, suc, ◌+◌, ◌<◌, ◌≤◌}
 use native.Mathlib.Numerals.{add-one}
@@ -21,12 +22,11 @@ use Rattle.model.proofs.Laws.Calls.{each_call_elsewhere, holds_call_either}
 use Rattle.model.proofs.Laws.Documents.{tree_from, end_from, InnerPlace, inner_place, leaf_place}
 use Rattle.tables.specs.declared.Procedure.{Procedure}
 use Rattle.running.specs.declared.Tally.{Tally}
-use Rattle.running.specs.declared.Outcome.{Outcome}
-use Rattle.running.specs.declared.Outcome.TheVariants.{NoRule, TooManyCalls}
+use Rattle.running.specs.declared.RunFault.TheVariants.{NoRule, TooManyCalls}
 use Rattle.running.specs.Places.{Children}
-use Rattle.plans.specs.Plans.{most_procedures, rule_symbols, most_nodes, numbers_place, ends_place, plan_node, plan_stay, plan_sought, plan_most}
+use Rattle.plans.specs.Plans.{most_procedures, rule_symbols, most_nodes, numbers_place, ends_place, plan_node, plan_sought, plan_most}
 use Rattle.plans.proofs.Seeking.{RuleTaken, rule_taken, no_rule_taken}
-use Rattle.running.specs.Work.{work_of, step_of, plan_child}
+use Rattle.running.specs.Work.{Outcome, work_of, step_of, plan_child}
 use Rattle.running.specs.Promises.{Plan, OperableIn, CallableIn, EvaluableIn, Evaluable, applied, runs_from, EvaluatesIn, Applies, Calls, CallsIn}
 use Rattle.running.proofs.Steps.{call_named, quiet_call_stays, run_past, run_stuck, run_goes}
 
@@ -58,7 +58,7 @@ stays_there runs empty = refl
 stays_there runs (node s l r) = refl
 
 -- a node whose operands are evaluated
-module _ {plan : List ℕ} {place k : ℕ} (asked : OperableIn plan place k) (n : Node) (read : n ≡ plan_node plan k) where
+module _ {plan : List ℕ} {place k : ℕ} (asked : OperableIn plan place k) {n : Node} (read : n ≡ plan_node plan k) where
   abbrev T : Transformation
   T = asked.known.transformation
 
@@ -74,10 +74,10 @@ module _ {plan : List ℕ} {place k : ℕ} (asked : OperableIn plan place k) (n 
   good : GoodNode T.symbols T.counts k at
   good = asked.known.tables.node k asked.able.there
 
-  pub row_applied : (first second : ℕ) (buffer : List ℕ) (tally : Tally) (r : Outcome) (o : List ℕ) → n.tag ≡ 1
+  pub row_applied : {first second : ℕ} (buffer : List ℕ) (tally : Tally) (r : Outcome) (o : List ℕ) → n.tag ≡ 1
       → add_row (row_count buffer) n.name first second (work_of tally buffer) ≡ step_of (row_count buffer) r o
       → Applies T numbers place k first second buffer tally r o
-  row_applied first second buffer tally r o t added free calls ws ef few cs =
+  row_applied {first} {second} buffer tally r o t added free calls ws ef few cs =
       ap (λ (x : Node). applied free (runs_from T numbers place free calls) x first second ws (work_of tally buffer)) (sym en)
       ∙ applied_row free (runs_from T numbers place free calls) n first second ws (work_of tally buffer) t
       ∙ rw ef added
@@ -107,7 +107,7 @@ module _ {plan : List ℕ} {place k : ℕ} (asked : OperableIn plan place k) (n 
       right-place : get_or plan (ends_place + (place + 1)) 0 ≡ end_from numbers (place + 1)
       right-place = asked.known.laid.end (place + 1) left-inside ∙ asked.known.text.end (place + 1) (omega arith) left-inside
 
-    module _ (there : ℕ) (found : there ≡ plan_child plan place n.child) where
+    module _ {there : ℕ} (found : there ≡ plan_child plan place n.child) where
       goes_to : GoesTo numbers place n.child there
       goes_to = go (ℕ_discrete n.child 0)
         where
@@ -131,10 +131,10 @@ module _ {plan : List ℕ} {place k : ℕ} (asked : OperableIn plan place k) (n 
       abbrev pub child_callable : CallableIn plan there n.name
       child_callable = record { known = asked.known; inside = child_inside; named = call_named_there }
 
-      pub call_applied : (first second : ℕ) (buffer : List ℕ) (tally : Tally) (r : Outcome) (o : List ℕ)
+      pub call_applied : {first second : ℕ} (buffer : List ℕ) (tally : Tally) (r : Outcome) (o : List ℕ)
           → CallsIn plan there n.name first second buffer tally r o
           → Applies T numbers place k first second buffer tally r o
-      call_applied first second buffer tally r o called free calls ws ef few cs =
+      call_applied {first} {second} buffer tally r o called free calls ws ef few cs =
           ap (λ (x : Node). applied free (runs_from T numbers place free calls) x first second ws (work_of tally buffer)) (sym en)
           ∙ applied_call free (runs_from T numbers place free calls) n first second ws (work_of tally buffer) other
           ∙ ap (λ (runs : Runs). runs n.name ws (work_of tally buffer)) (goes_to.runs (run_on T free calls))
@@ -148,6 +148,10 @@ no_call_moves e h = neither (holds_call_to stays e) (holds_call_to moves e) (sym
     neither : (a b : Bool) → (a or b) ≡ false → b ≡ false
     neither true b e = absurd (true≢false e)
     neither false b e = e
+
+none_is : (o : Option ℕ) → ((x : ℕ) → o ≡ Some x → ⊥) → o ≡ None
+none_is None other = refl
+none_is (Some x) other = absurd (other x refl)
 
 -- a procedure called at a place
 module _ {plan : List ℕ} {place p : ℕ} (asked : CallableIn plan place p) where
@@ -163,17 +167,14 @@ module _ {plan : List ℕ} {place p : ℕ} (asked : CallableIn plan place p) whe
   pub procedure_small : p < most_procedures
   procedure_small = omega (arith, asked.named, caller.tables.procedures.≤most)
 
-  pub stay_small : plan_stay plan < rule_symbols
-  stay_small = omega (arith, caller.laid.stay, caller.tables.symbols.≤most)
-
-  pub too_many : (most : ℕ) → most ≡ plan_most plan → (first second : ℕ) (buffer : List ℕ) (tally : Tally) → most ≤ tally.calls
-      → Called first second buffer tally (TooManyCalls most) buffer
-  too_many most e first second buffer tally h free calls ws ef few cs =
+  pub too_many : {most : ℕ} → most ≡ plan_most plan → {first second : ℕ} (buffer : List ℕ) (tally : Tally) → most ≤ tally.calls
+      → Called first second buffer tally (Err (TooManyCalls most)) buffer
+  too_many {most} e buffer tally h free calls ws ef few cs =
       let all : most ≡ most_calls C = e ∙ caller.laid.most in
       run_past C free (tree_from caller.numbers place) p ws (work_of tally buffer) calls (omega arith) ∙ ap (refused 15) (sym all)
 
   -- by the right side that the plan has for it
-  module _ (s : ℕ) (es : s ≡ get_or plan (numbers_place + place) 0) where
+  module _ {s : ℕ} (es : s ≡ get_or plan (numbers_place + place) 0) where
     symbol_there : s ≡ get_or caller.numbers place 0
     symbol_there = es ∙ caller.laid.symbol place asked.inside
 
@@ -183,49 +184,52 @@ module _ {plan : List ℕ} {place p : ℕ} (asked : CallableIn plan place p) whe
     root_there : s ≡ root_symbol (tree_from caller.numbers place)
     root_there = symbol_there ∙ sym (root_at caller.text place asked.inside)
 
-    module _ (side : ℕ) (found : side ≡ plan_sought plan p s) where
-      node_small : (r : ℕ) → r < rule_count C.rules → (rule_at C.rules r).node < most_nodes
-      node_small r h = omega (arith, (caller.tables.rule r h).node, caller.tables.nodes_few)
+    node_small : (r : ℕ) → r < rule_count C.rules → (rule_at C.rules r).node < most_nodes
+    node_small r h = omega (arith, (caller.tables.rule r h).node, caller.tables.nodes_few)
 
-      few-symbols : C.symbols < rule_symbols
-      few-symbols = omega (arith, caller.tables.symbols.≤most)
+    few-symbols : C.symbols < rule_symbols
+    few-symbols = omega (arith, caller.tables.symbols.≤most)
 
-      taken : side < most_nodes → RuleTaken C p s side
-      taken h = rule_taken caller.laid node_small few-symbols p procedure_small s symbol_small side found h
+    pub no_rule : ((side : ℕ) → plan_sought plan p s ≡ Some side → ⊥) → {first second : ℕ} (buffer : List ℕ) (tally : Tally) → tally.calls < plan_most plan
+        → {procedure : Procedure} → procedure.0 ≡ p
+        → Called first second buffer tally (Err (NoRule procedure)) buffer
+    no_rule none buffer tally few ep free calls ws ef enough cs =
+        run_stuck C free (tree_from caller.numbers place) p ws (work_of tally buffer) (omega (arith, caller.laid.most)) calls enough
+        (rw (← root_there) (no_rule_taken caller.laid node_small few-symbols p procedure_small s symbol_small (sym (none_is _ none))))
+        ∙ ap (refused 13) (sym ep)
+
+    -- a right side
+    module _ {side : ℕ} (found : plan_sought plan p s ≡ Some side) where
+      taken : RuleTaken C p s side
+      taken = rule_taken caller.laid node_small few-symbols p procedure_small s symbol_small side (sym found)
 
       -- it can be evaluated there
-      pub side_able : side < most_nodes → Evaluable C caller.numbers place side
-      side_able h =
-          let good = caller.tables.rule (taken h).rule (taken h).there in
-          rw (taken h).node (record {
+      pub side_able : Evaluable C caller.numbers place side
+      side_able =
+          let good = caller.tables.rule taken.rule taken.there in
+          rw taken.node (record {
             inside = asked.inside;
             there = good.node;
-            quiet = λ z. each_call_elsewhere moves _ (quiet z (taken h).symbol);
+            quiet = λ z. each_call_elsewhere moves _ (quiet z taken.symbol);
           })
         where
           quiet : get_or caller.numbers place 0 ≡ 0
-              → ((rule_at C.rules (taken h).rule).symbol ≡ s) ⊎ ((rule_at C.rules (taken h).rule).symbol ≡ C.symbols)
-              → holds_call_to moves (expression C.counts C.nodes (rule_at C.rules (taken h).rule).node) ≡ false
-          quiet z (inl own) = no_call_moves _ ((caller.tables.rule (taken h).rule (taken h).there).leaf_holds_no_call (own ∙ symbol_there ∙ z))
-          quiet z (inr stay) = (caller.tables.rule (taken h).rule (taken h).there).stay_stays stay
+              → ((rule_at C.rules taken.rule).symbol ≡ s) ⊎ ((rule_at C.rules taken.rule).symbol ≡ C.symbols)
+              → holds_call_to moves (expression C.counts C.nodes (rule_at C.rules taken.rule).node) ≡ false
+          quiet z (inl own) = no_call_moves _ ((caller.tables.rule taken.rule taken.there).leaf_holds_no_call (own ∙ symbol_there ∙ z))
+          quiet z (inr stay) = (caller.tables.rule taken.rule taken.there).stay_stays stay
 
-      abbrev pub side_evaluable : side < most_nodes → EvaluableIn plan place side
-      side_evaluable h = record { known = caller; able = side_able h }
+      abbrev pub side_evaluable : EvaluableIn plan place side
+      side_evaluable = record { known = caller; able = side_able }
 
-      module _ (most : ℕ) (em : most ≡ plan_most plan) (first second : ℕ) (buffer : List ℕ) (tally : Tally) (few : tally.calls < most) where
+      module _ (tally : Tally) (few : tally.calls < plan_most plan) where
         counted : tally.calls < most_calls C
-        counted = omega (arith, em, caller.laid.most)
+        counted = omega (arith, caller.laid.most)
 
-        pub no_rule : most_nodes ≤ side → (procedure : Procedure) → procedure.0 ≡ p → Called first second buffer tally (NoRule procedure) buffer
-        no_rule none procedure ep free calls ws ef enough cs =
-            run_stuck C free (tree_from caller.numbers place) p ws (work_of tally buffer) counted calls enough
-            (rw (← root_there) (no_rule_taken caller.laid node_small few-symbols p procedure_small s symbol_small side found none))
-            ∙ ap (refused 13) (sym ep)
-
-        pub called : side < most_nodes → (r : Outcome) (o : List ℕ)
+        pub called : {first second : ℕ} (buffer : List ℕ) (r : Outcome) (o : List ℕ)
             → EvaluatesIn plan place side first second buffer (record { used = tally.used; calls = tally.calls + 1 }) r o
             → Called first second buffer tally r o
-        called h r o evaluated free zero ws ef enough cs = absurd (omega (arith, counted))
-        called h r o evaluated free (suc calls) ws ef enough cs =
-            run_goes C free (tree_from caller.numbers place) p ws (work_of tally buffer) counted calls (taken h).rule (rw (← root_there) (taken h).sought)
-            ∙ rw (← (taken h).node, ← add-one tally.calls) (evaluated (side_evaluable h) free calls ws ef (omega arith) cs)
+        called buffer r o evaluated free zero ws ef enough cs = absurd (omega (arith, counted))
+        called buffer r o evaluated free (suc calls) ws ef enough cs =
+            run_goes C free (tree_from caller.numbers place) p ws (work_of tally buffer) counted calls taken.rule (rw (← root_there) taken.sought)
+            ∙ rw (← taken.node, ← add-one tally.calls) (evaluated side_evaluable free calls ws ef (omega arith) cs)

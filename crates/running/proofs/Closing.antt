@@ -1,41 +1,36 @@
 -- The end of the work: what the answer and the cleared buffer are of the outcome. Its start: what a plan asks for, and that
 -- procedure 0 may be called by it.
 use mathlib.Core.Path.{◌≡◌, refl, ap, sym, ◌∙◌}
-use mathlib.Core.List.{List, [], ◌∷◌}
-use mathlib.Core.Logic.{inl, inr}
+use mathlib.Core.List.{List, []}
 use Prim.Native.Nat.{ℕ, ◌-◌}
 use native.Mathlib.Omega.{arith}
 use lib.ListN.{length, take, replicate}
-use types.Run.{OneOf}
-use denote.Enum.Declared.{tag_of}
 use Rattle.foundation.specs.Lists.{zero_filled}
 use Rattle.model.specs.Rows.{row_count}
 use Rattle.model.specs.Tables.{Transformation}
 use Rattle.model.specs.Documents.{document_tree}
 use Rattle.model.specs.Running.{Step, most_calls, run, closing}
-use Rattle.answers.specs.declared.RunningAnswer.{RunningAnswer}
+use Rattle.answers.specs.declared.Ran.{Ran}
+use Rattle.answers.specs.declared.RunningRefusal.{RunningRefusal}
 use Rattle.answers.specs.Numbers.{running_answer}
-use Rattle.plans.specs.Plans.{SmallRules, Laid}
+use Rattle.plans.specs.Plans.{Laid}
 use Rattle.reading.specs.Ends.{EndsFrom}
 use Rattle.model.proofs.Laws.Documents.{document-tree}
-use Rattle.running.specs.declared.Outcome.{Outcome}
-use Rattle.running.specs.declared.Outcome.TheVariants.{Made, NoRule, NoRow, TooManyCalls}
+use Rattle.std.specs.Prelude.{Result, Ok, Err}
+use Rattle.running.specs.declared.RunFault.TheVariants.{NoRule, NoRow, TooManyCalls}
 use Rattle.running.specs.declared.Tally.{Tally}
-use Rattle.running.specs.declared.End.{End}
-use Rattle.running.specs.declared.End.TheVariants.{Root, NoRule as NoRuleEnd, NoRow as NoRowEnd, TooManyCalls as TooManyCallsEnd}
 use Rattle.running.specs.declared.Ended.{Ended}
-use Rattle.running.specs.Work.{step_of, ended_of, numbers_kept, end_answer}
-use Rattle.running.specs.contracts.End.{the_type}
+use Rattle.running.specs.Work.{Outcome, step_of, ended_of, numbers_kept, end_answer}
 use Rattle.running.specs.Places.{ReadDocument}
 use Rattle.running.specs.Promises.{Admitted, CallableIn, Calls, Closes}
 
 module _ (n taken free : ℕ) (before : Tally) where
   closed_answer : (x : Outcome) (o : List ℕ) → (closing n taken (step_of free x o)).answer ≡ end_answer free taken (ended_of before x).end (ended_of before x).tally
   unfolding closing
-  closed_answer (Made row tally) o = refl
-  closed_answer (NoRule procedure) o = refl
-  closed_answer NoRow o = refl
-  closed_answer (TooManyCalls most) o = refl
+  closed_answer (Ok m) o = refl
+  closed_answer (Err (NoRule procedure)) o = refl
+  closed_answer (Err NoRow) o = refl
+  closed_answer (Err (TooManyCalls most)) o = refl
 
   none_kept : (o : List ℕ) → replicate n 0 ≡ zero_filled n (take 0 o)
   unfolding zero_filled
@@ -43,25 +38,10 @@ module _ (n taken free : ℕ) (before : Tally) where
 
   closed_rows : (x : Outcome) (o : List ℕ) → (closing n taken (step_of free x o)).rows ≡ zero_filled n (take (numbers_kept (ended_of before x).end (ended_of before x).tally) o)
   unfolding closing
-  closed_rows (Made row tally) o = refl
-  closed_rows (NoRule procedure) o = none_kept o
-  closed_rows NoRow o = none_kept o
-  closed_rows (TooManyCalls most) o = none_kept o
-
-abbrev pub Refused : End → Type 0
-Refused x = OneOf (1 ∷ 2 ∷ 3 ∷ []) (tag_of the_type x)
-
-root_not_refused : (root : ℕ) → Refused (Root root) → ⊥
-root_not_refused root (inl e) = omega arith
-root_not_refused root (inr (inl e)) = omega arith
-root_not_refused root (inr (inr e)) = omega arith
-
--- a refusal keeps nothing of the buffer
-pub refused-keeps : (x : End) (tally : Tally) → Refused x → numbers_kept x tally ≡ 0
-refused-keeps (Root root) tally h = absurd (root_not_refused root h)
-refused-keeps (NoRuleEnd procedure) tally h = refl
-refused-keeps NoRowEnd tally h = refl
-refused-keeps (TooManyCallsEnd most) tally h = refl
+  closed_rows (Ok m) o = refl
+  closed_rows (Err (NoRule procedure)) o = none_kept o
+  closed_rows (Err NoRow) o = none_kept o
+  closed_rows (Err (TooManyCalls most)) o = none_kept o
 
 module _ (T : Transformation) (numbers buffer : List ℕ) (x : Outcome) (left : List ℕ) (called : Calls T numbers 0 0 0 0 buffer (record { used = 0; calls = 0 }) x left) where
   abbrev free : ℕ
@@ -74,21 +54,13 @@ module _ (T : Transformation) (numbers buffer : List ℕ) (x : Outcome) (left : 
   unfolding run
   ran_to = rw (document-tree numbers) (called free (most_calls T) [] refl (omega arith) (record { one = refl; two = refl }))
 
-  pub closes : (r : RunningAnswer) (o : List ℕ) → running_answer r ≡ end_answer free (length numbers) work.end work.tally → o ≡ zero_filled (length buffer) (take (numbers_kept work.end work.tally) left)
+  pub closes : (r : Result Ran RunningRefusal) (o : List ℕ) → running_answer r ≡ end_answer free (length numbers) work.end work.tally → o ≡ zero_filled (length buffer) (take (numbers_kept work.end work.tally) left)
       → Closes T numbers buffer r o
   closes r o answered kept =
       record {
         answered = answered ∙ sym (closed_answer (length buffer) (length numbers) free _ x left) ∙ ap (λ (s : Step ℕ). (closing (length buffer) (length numbers) s).answer) (sym ran_to);
         left = kept ∙ sym (closed_rows (length buffer) (length numbers) free _ x left) ∙ ap (λ (s : Step ℕ). (closing (length buffer) (length numbers) s).rows) (sym ran_to);
       }
-
--- the rules of an admitted transformation have room in a plan
-pub small_rules : (T : Transformation) → Admitted T → SmallRules T.rules
-small_rules T admitted =
-    record {
-      procedure = λ r h. let good = admitted.rule r h in omega (arith, good.procedure, admitted.procedures.≤most);
-      symbol = λ r h. let good = admitted.rule r h in omega (arith, good.symbol, admitted.symbols.≤most);
-    }
 
 -- procedure 0 may be called on the whole document
 abbrev pub callable : {T : Transformation} {numbers ends plan : List ℕ} → Admitted T → ReadDocument numbers → EndsFrom 0 numbers ends

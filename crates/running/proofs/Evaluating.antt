@@ -3,7 +3,6 @@
 use mathlib.Core.Path.{◌≡◌, refl, ap, subst, sym, ◌∙◌}
 use mathlib.Core.Bool.{Bool, true, false}
 use mathlib.Core.List.{List, [], ◌∷◌}
-use mathlib.Core.Logic.{inl, inr}
 use Prim.Native.Nat.{ℕ, zero, suc, ◌+◌, ◌-◌, ◌<◌, ◌≤◌}
 use native.Mathlib.Nat.{not-suc-le-zero}
 use native.Mathlib.Omega.{arith}
@@ -11,8 +10,7 @@ use native.Mathlib.Decide.{dec_lt}
 use lib.Dec.{eqb}
 use lib.ListN.{length, get_or}
 use borrow.Author.Tests.{eqb-false}
-use types.Run.{OneOf}
-use denote.Enum.Declared.{tag_of}
+use Rattle.std.specs.Prelude.{Ok, Err}
 use Rattle.foundation.specs.Tests.{choose}
 use Rattle.model.specs.Rows.{row_count}
 use Rattle.model.specs.Tables.{Transformation, Node, node_at, node_count, count_of}
@@ -22,29 +20,23 @@ use Rattle.model.proofs.Laws.Documents.{tree_from}
 use Rattle.model.proofs.Laws.Established.{Between, GoodNode}
 use Rattle.model.proofs.Laws.Calling.{Holds, Made as AtLeast, evaluate_grown, child_growing, run_on_grown}
 use Rattle.running.specs.declared.Tally.{Tally}
-use Rattle.running.specs.declared.Outcome.{Outcome}
-use Rattle.running.specs.declared.Outcome.TheVariants.{Made, NoRule, NoRow, TooManyCalls}
-use Rattle.plans.specs.Plans.{most_procedures, plan_node, Laid}
-use Rattle.running.specs.Work.{work_of, step_of, parameter_row, operand_count, plan_operands, operand_node}
+use Rattle.running.specs.declared.RunFault.{RunFault}
+use Rattle.running.specs.declared.RunFault.TheVariants.{NoRule, NoRow, TooManyCalls}
+use Rattle.plans.specs.Plans.{plan_node, Laid}
+use Rattle.running.specs.Work.{Outcome, work_of, step_of, parameter_row, operand_count, plan_operands, operand_node}
 use Rattle.running.specs.Promises.{Plan, EvaluableIn, Evaluable, OperableIn, Carries, operated, runs_from, value_from, Evaluates, EvaluatesIn, Operates, OperatesIn, AppliesIn}
-use Rattle.running.specs.contracts.Outcome.{the_type}
 use Rattle.running.proofs.Steps.{step_parameter, step_node, operand_smaller, operand_quiet, operated_none, operated_there, rows_of, call_named, parameter_name}
 
--- a refusal ends the work, whatever was to follow
-abbrev pub Refused : Outcome → Type 0
-Refused x = OneOf (1 ∷ 2 ∷ 3 ∷ []) (tag_of the_type x)
-
-made_not_refused : (row : ℕ) (tally : Tally) → Refused (Made row tally) → ⊥
-made_not_refused row tally (inl e) = omega arith
-made_not_refused row tally (inr (inl e)) = omega arith
-made_not_refused row tally (inr (inr e)) = omega arith
-
-stops : {s : Step ℕ} (free : ℕ) (x : Outcome) (o : List ℕ) (k : ℕ → Work → Step ℕ) → s ≡ step_of free x o → Refused x → (s after k) ≡ step_of free x o
+-- a fault ends the work, whatever was to follow
+stops : {s : Step ℕ} (free : ℕ) (fault : RunFault) (o : List ℕ) (k : ℕ → Work → Step ℕ) → s ≡ step_of free (Err fault) o → (s after k) ≡ step_of free (Err fault) o
 unfolding ◌after◌
-stops free (Made row tally) o k e h = absurd (made_not_refused row tally h)
-stops free (NoRule procedure) o k e h = rw e
-stops free NoRow o k e h = rw e
-stops free (TooManyCalls most) o k e h = rw e
+stops free (NoRule procedure) o k e = rw e
+stops free NoRow o k e = rw e
+stops free (TooManyCalls most) o k e = rw e
+
+-- a buffer that is as long as another is no longer than that one may be
+pub fewer : {m n : ℕ} → m ≡ n → n ≤ 12288 → m ≤ 12288
+fewer same few = omega arith
 
 goes : {s : Step ℕ} (a : ℕ) (w : Work) (k : ℕ → Work → Step ℕ) → s ≡ made a w → (s after k) ≡ k a w
 unfolding ◌after◌
@@ -58,7 +50,7 @@ row_of (refused number place) = 0
 -- how many operands a node has, read from a plan
 operands_read : {T : Transformation} {numbers ends plan : List ℕ} → Laid T numbers ends plan → (n : Node) → ((n.tag ≡ 1 → ⊥) → n.name < length T.counts)
     → plan_operands plan n ≡ operand_count T.counts n
-unfolding plan_operands operand_count
+unfolding operand_count
 operands_read {T} {numbers} {ends} {plan} laid n named = go (eqb n.tag 1) refl
   where
     go : (b : Bool) → eqb n.tag 1 ≡ b → choose b (choose (eqb n.name 0) 0 2) (get_or plan n.name 0) ≡ choose b (choose (eqb n.name 0) 0 2) (count_of T.counts n.name)
@@ -74,7 +66,7 @@ module _ {plan : List ℕ} (known : Plan plan) {k : ℕ} (there : k < node_count
   good_node = known.tables.node k there
 
 -- an operand of node k of a plan
-module _ {plan : List ℕ} {place k : ℕ} (asked : OperableIn plan place k) (n : Node) (read : n ≡ plan_node plan k) where
+module _ {plan : List ℕ} {place k : ℕ} (asked : OperableIn plan place k) {n : Node} (read : n ≡ plan_node plan k) where
   abbrev T : Transformation
   T = asked.known.transformation
 
@@ -93,18 +85,15 @@ module _ {plan : List ℕ} {place k : ℕ} (asked : OperableIn plan place k) (n 
   named : (n.tag ≡ 1 → ⊥) → n.name < length T.counts
   named other = rw en (call_named T.counts good asked.inner (rw en at other))
 
-  pub named_small : (n.tag ≡ 1 → ⊥) → n.name < most_procedures
-  named_small other = omega (arith, named other, asked.known.tables.procedures.≤most)
-
-  module _ (number : ℕ) (either : Between 1 2 number) (count : ℕ) (found : count ≡ plan_operands plan n) where
+  module _ {number : ℕ} (either : Between 1 2 number) {count : ℕ} (found : count ≡ plan_operands plan n) where
     counted : count ≡ operand_count T.counts here
     counted = found ∙ operands_read asked.known.laid n named ∙ ap (operand_count T.counts) en
 
-    pub operand_none : count < number → (first second : ℕ) (buffer : List ℕ) (tally : Tally) → Operates T numbers place k number first second buffer tally (Made 0 tally) buffer
-    operand_none none first second buffer tally free calls ws ef few cs =
+    pub operand_none : count < number → {first second : ℕ} (buffer : List ℕ) (tally : Tally) → Operates T numbers place k number first second buffer tally (Ok (0, tally)) buffer
+    operand_none none buffer tally free calls ws ef few cs =
         operated_none T.counts here number (value_from T numbers place free calls ws) (work_of tally buffer) (omega (arith, counted))
 
-    module _ (there : number ≤ count) (m : ℕ) (em : m ≡ operand_node number n) where
+    module _ (there : number ≤ count) {m : ℕ} (em : m ≡ operand_node number n) where
       enough : number ≤ operand_count T.counts here
       enough = omega (arith, counted)
 
@@ -125,16 +114,16 @@ module _ {plan : List ℕ} {place k : ℕ} (asked : OperableIn plan place k) (n 
       abbrev pub operand_evaluable : EvaluableIn plan place m
       operand_evaluable = record { known = asked.known; able = operand_able }
 
-      pub operand_evaluated : (first second : ℕ) (buffer : List ℕ) (tally : Tally) (r : Outcome) (o : List ℕ) → EvaluatesIn plan place m first second buffer tally r o
+      pub operand_evaluated : {first second : ℕ} (buffer : List ℕ) (tally : Tally) (r : Outcome) (o : List ℕ) → EvaluatesIn plan place m first second buffer tally r o
           → Operates T numbers place k number first second buffer tally r o
-      operand_evaluated first second buffer tally r o evaluated free calls ws ef few cs =
+      operand_evaluated buffer tally r o evaluated free calls ws ef few cs =
           operated_there T.counts here number (value_from T numbers place free calls ws) (work_of tally buffer) enough
           ∙ ap (λ (i : ℕ). value_from T numbers place free calls ws i (work_of tally buffer)) (sym operand_here)
           ∙ evaluated operand_evaluable free calls ws ef few cs
 
 -- an operand that is evaluated makes no call undone, and has row 0 where there is none
 module _ (T : Transformation) (numbers : List ℕ) (place k number first second : ℕ) (buffer : List ℕ) (tally : Tally) (a : ℕ) (t₁ : Tally) (o : List ℕ)
-    (operates : Operates T numbers place k number first second buffer tally (Made a t₁) o) where
+    (operates : Operates T numbers place k number first second buffer tally (Ok (a, t₁)) o) where
   abbrev n₀ : Node
   n₀ = node_at T.nodes k
 
@@ -167,7 +156,7 @@ rows_carried (suc zero) a b x y = record { one = refl; two = sym (y (omega arith
 rows_carried (suc (suc m)) a b x y = record { one = refl; two = refl }
 
 -- node k of a plan, at a place of the document
-module _ {plan : List ℕ} {place k : ℕ} (asked : EvaluableIn plan place k) (n : Node) (read : n ≡ plan_node plan k) where
+module _ {plan : List ℕ} {place k : ℕ} (asked : EvaluableIn plan place k) {n : Node} (read : n ≡ plan_node plan k) where
   abbrev M : Transformation
   M = asked.known.transformation
 
@@ -180,9 +169,9 @@ module _ {plan : List ℕ} {place k : ℕ} (asked : EvaluableIn plan place k) (n
   et : n ≡ this
   et = read ∙ node_read asked.known asked.able.there
 
-  pub parameter_evaluated : n.tag ≡ 0 → (first second : ℕ) (buffer : List ℕ) (tally : Tally) (r : ℕ) → r ≡ parameter_row n.name first second
-      → Evaluates M text place k first second buffer tally (Made r tally) buffer
-  parameter_evaluated t first second buffer tally r er free calls ws ef few cs =
+  pub parameter_evaluated : n.tag ≡ 0 → {first second : ℕ} (buffer : List ℕ) (tally : Tally) {r : ℕ} → r ≡ parameter_row n.name first second
+      → Evaluates M text place k first second buffer tally (Ok (r, tally)) buffer
+  parameter_evaluated t {first} {second} buffer tally {r} er free calls ws ef few cs =
       let t' : this.tag ≡ 0 = rw et at t in
       let (low, high) = parameter_name M.counts (good_node asked.known asked.able.there) t' in
       step_parameter M free _ ws (work_of tally buffer) k t'
@@ -202,17 +191,17 @@ module _ {plan : List ℕ} {place k : ℕ} (asked : EvaluableIn plan place k) (n
     abbrev pub operable : OperableIn plan place k
     operable = record { known = asked.known; able = asked.able; inner = inner' }
 
-    module _ (first second : ℕ) (buffer : List ℕ) (tally : Tally) (x : Outcome) (o₁ : List ℕ) (operates : OperatesIn plan place k 1 first second buffer tally x o₁) where
+    module _ {first second : ℕ} (buffer : List ℕ) (tally : Tally) (x : Outcome) (o₁ : List ℕ) (operates : OperatesIn plan place k 1 first second buffer tally x o₁) where
       abbrev Gives : Outcome → List ℕ → Type 0
       Gives = Evaluates M text place k first second buffer tally
 
-      pub first_stopped : Refused x → Gives x o₁
-      first_stopped stopped free calls ws ef few cs =
+      pub first_stopped : {fault : RunFault} → x ≡ Err fault → Gives (Err fault) o₁
+      first_stopped {fault} ex free calls ws ef few cs =
           step_node M free (runs_from M text place free calls) ws (work_of tally buffer) k (good_node asked.known asked.able.there) inner'
-          ∙ stops free x o₁ _ (operates operable free calls ws ef few cs) stopped
+          ∙ stops free fault o₁ _ (rw ex at (operates operable free calls ws ef few cs))
 
-      module _ (a : ℕ) (t₁ : Tally) (ex : x ≡ Made a t₁) (same : length o₁ ≡ length buffer) where
-        operates₁ : Operates M text place k 1 first second buffer tally (Made a t₁) o₁
+      module _ {a : ℕ} {t₁ : Tally} (ex : x ≡ Ok (a, t₁)) (same : length o₁ ≡ length buffer) where
+        operates₁ : Operates M text place k 1 first second buffer tally (Ok (a, t₁)) o₁
         operates₁ = rw ex at (operates operable)
 
         pub first_grown : tally.calls ≤ t₁.calls
@@ -223,14 +212,14 @@ module _ {plan : List ℕ} {place k : ℕ} (asked : EvaluableIn plan place k) (n
               → operated M.counts this 2 (value_from M text place free calls ws) (work_of t₁ o₁) ≡ step_of free y o₂
           second_given free calls ws ef few cs = operates' operable free calls ws (rw same ef) (omega (arith, first_grown)) cs
 
-          pub second_stopped : Refused y → Gives y o₂
-          second_stopped stopped free calls ws ef few cs =
+          pub second_stopped : {fault : RunFault} → y ≡ Err fault → Gives (Err fault) o₂
+          second_stopped {fault} ey free calls ws ef few cs =
               step_node M free (runs_from M text place free calls) ws (work_of tally buffer) k (good_node asked.known asked.able.there) inner'
               ∙ goes a (work_of t₁ o₁) _ (operates₁ free calls ws ef few cs)
-              ∙ stops free y o₂ _ (second_given free calls ws ef few cs) stopped
+              ∙ stops free fault o₂ _ (rw ey at (second_given free calls ws ef few cs))
 
-          module _ (b : ℕ) (t₂ : Tally) (ey : y ≡ Made b t₂) where
-            operates₂ : Operates M text place k 2 first second o₁ t₁ (Made b t₂) o₂
+          module _ {b : ℕ} {t₂ : Tally} (ey : y ≡ Ok (b, t₂)) where
+            operates₂ : Operates M text place k 2 first second o₁ t₁ (Ok (b, t₂)) o₂
             operates₂ = rw ey at (operates' operable)
 
             pub second_grown : t₁.calls ≤ t₂.calls

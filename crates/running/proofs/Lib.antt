@@ -5,4 +5,3 @@ pub mod Evaluating
 pub mod Calling
 pub mod Closing
 pub mod Admitting
-pub mod Lending

@@ -1,5 +1,5 @@
 -- What evaluating a node and its operands, applying it and calling a procedure require and promise.
-use Rattle.std.specs.Prelude.{◌≡◌, false, List, ℕ, ◌+◌, ◌*◌, ◌<◌, ◌≤◌, eqb, ltb, length, get_or}
+use Rattle.std.specs.Prelude.{◌≡◌, false, List, ℕ, ◌+◌, ◌*◌, ◌<◌, ◌≤◌, eqb, ltb, length, get_or, Result}
 use Rattle.foundation.specs.Tests.{choose}
 use Rattle.model.specs.Rows.{row_count}
 use Rattle.model.specs.Tables.{Transformation, Node, node_at, node_count, rule_at, rule_count}
@@ -7,17 +7,17 @@ use Rattle.model.specs.Expressions.{Child, moves, child_of, expression}
 use Rattle.model.specs.Answers.{Verdict, Answer, refusal, refuse_if, ◌then◌, given}
 use Rattle.model.specs.Documents.{document_tree, numbers_taken, leading_tree, leading_verdict}
 use Rattle.model.specs.Running.{Work, Step, made, most_calls, Runs, on_child, Ran, rows_wrong, add_row, evaluate, run_on, run, closing}
-use Rattle.answers.specs.declared.RunningAnswer.{RunningAnswer}
+use Rattle.answers.specs.declared.Ran as code
+use Rattle.answers.specs.declared.RunningRefusal.{RunningRefusal}
 use Rattle.answers.specs.Numbers.{running_answer}
 use Rattle.model.proofs.Laws.Documents.{tree_from}
 use Rattle.model.proofs.Laws.Established.{Between, GoodNode, GoodRule}
 use Rattle.model.proofs.Laws.Calls.{EachCall}
 use Rattle.running.specs.declared.Tally.{Tally}
-use Rattle.running.specs.declared.Outcome.{Outcome}
 use Rattle.running.specs.declared.Ended.{Ended}
 use Rattle.plans.specs.Plans.{most_procedures, most_nodes, Laid}
 use Rattle.running.specs.Places.{Children}
-use Rattle.running.specs.Work.{work_of, step_of, ended_of, operand_count, operand_node}
+use Rattle.running.specs.Work.{Outcome, work_of, step_of, ended_of, operand_count, operand_node}
 
 -- the tables of an admitted transformation
 pub record Admitted (T : Transformation) : Type 0 where
@@ -139,7 +139,7 @@ pub record EndsWith (ran : Ran) (answer : Answer) (buffer : List ℕ) : Type 0 w
   pub left : buffer ≡ ran.rows
 
 -- the promise of the whole work on a document, which is all of the numbers
-abbrev pub Closes : Transformation → (numbers buffer : List ℕ) → RunningAnswer → List ℕ → Type 0
+abbrev pub Closes : Transformation → (numbers buffer : List ℕ) → Result code.Ran RunningRefusal → List ℕ → Type 0
 Closes T numbers buffer r closed =
     EndsWith (closing (length buffer) (length numbers) (run T (row_count buffer) (document_tree numbers))) (running_answer r) closed
 

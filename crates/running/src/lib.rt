@@ -4,51 +4,55 @@
 // Calling a procedure evaluates its right side, and evaluating calls procedures on the children or at the node itself: the calls left fall
 // at each call, the node number at each evaluation. What the work reads stands in one plan, so that a step of it is small. The steps take
 // the tally by value and give it back; over them, `start_lent` takes it lent, and `start_anew` lends it one.
+//
+// A place, the rows of parameters, the buffer and the tally go to each step one by one: as one value they would be taken apart and made
+// anew at each step that changes one of them, which nearly all do.
+//
+// Each step asks that the row buffer has at most 4,096 rows. A struct with the lent slice and this fact was tried: that what a step leaves
+// in the slice of such a struct is left in the caller's buffer was not proved, since the step might have put another slice into it.
+// What each step asks of the plan names the transformation and the document that the plan is of, and a ghost field holds facts alone.
 #![tactic(auto)]
 
 ghost use Rattle.std.specs.Prelude.{◌≡◌, ◌+◌, ◌<◌, ◌≤◌, length, take};
 ghost use Rattle.foundation.specs.Lists.{zero_filled};
-ghost use Rattle.answers.specs.Numbers.{running_answer};
+ghost use Rattle.answers.specs.Numbers.{running_answer, running_refusal};
 ghost use Rattle.model.specs.Rows.{row_count};
-ghost use Rattle.model.specs.Tables.{contract};
-ghost use Rattle.model.specs.Answers.{refuse_if, ◌then◌};
-ghost use Rattle.model.specs.Running.{add_row, rows_wrong, running};
+ghost use Rattle.model.specs.Running.{add_row, running};
 ghost use Rattle.model.proofs.Laws.Established.{Between};
-ghost use Rattle.reading.specs.Answers.{reading_verdict};
-ghost use Rattle.plans.specs.Plans.{most_procedures, most_numbers, transformation_of};
+ghost use Rattle.plans.specs.Plans.{most_procedures, most_numbers};
+ghost use Rattle.tables.specs.Handed.{handed};
 ghost use Rattle.tables.specs.Tuples.{node_of};
-ghost use Rattle.running.specs.Work.{work_of, step_of, ended_of, parameter_row, plan_operands, operand_node, plan_child, numbers_kept, end_answer, verdict_of};
+ghost use Rattle.running.specs.Work.{work_of, step_of, ended_of, parameter_row, plan_operands, operand_node, plan_child, numbers_kept, fault_answer, end_answer};
 ghost use Rattle.running.specs.Places.{ReadDocument};
 ghost use Rattle.running.specs.Promises.{EndsWith, after_admission, Admitted, Closes, EvaluableIn, OperableIn, CallableIn, EvaluatesIn, OperatesIn, AppliesIn, CallsIn, StartsIn};
 
 use admission::admit;
-use answers::{AdmissionAnswer, DocumentFault, RunningAnswer};
-use plans::{
-    MOST_NODES, Plan, blank_plan, count_of, end_of, fill_plan, most_calls, node_of, sought_side,
-    symbol_of,
-};
-use reading::{Reading, fill_ends, read, taken_of};
-use tables::{Node, Procedure, Symbol};
+use answers::{Ran, RunningRefusal};
+use plans::Plan;
+use reading::{fill_ends, read};
+use tables::{ContractTables, Node, Procedure, Symbol, tuples_wrong};
+
+// The most rows that a buffer has room for.
+const MOST_ROWS: usize = 4096;
 
 // How many rows are used and how many calls are made.
-#[derive(Clone, Copy)]
+#[derive(Clone, Copy, Debug, PartialEq, Eq)]
 pub struct Tally {
     pub used: u16,
     pub calls: u32,
 }
 
 // The rows of two parameters, or of a node's two operands; 0 where there are fewer.
-#[derive(Clone, Copy)]
+#[derive(Clone, Copy, Debug, PartialEq, Eq)]
 pub struct RowPair {
     pub first: u16,
     pub second: u16,
 }
 
-// What a step of the work gives.
-#[derive(Clone, Copy)]
-pub enum Outcome {
-    // A row, and the tally after it.
-    Made(u16, Tally),
+// Why the work ends without a root row. It is small, since each step of the work keeps room for one on the stack: so it does not tell what
+// a refusal of the run does besides.
+#[derive(Clone, Copy, Debug, PartialEq, Eq)]
+pub enum RunFault {
     // The procedure has no rule where it is called.
     NoRule(Procedure),
     // A row is due and none is free.
@@ -57,34 +61,14 @@ pub enum Outcome {
     TooManyCalls(u32),
 }
 
-// How the work ends: its root row, or a refusal.
-#[derive(Clone, Copy)]
-pub enum End {
-    Root(u16),
-    NoRule(Procedure),
-    NoRow,
-    TooManyCalls(u32),
-}
+// What a step of the work gives: a row, and the tally after it.
+type Outcome = Result<(u16, Tally), RunFault>;
 
-// How the work ends, and the tally that is then reached; where it is refused, the tally with which it began.
-#[derive(Clone, Copy)]
+// How the work ends, with its root row or a fault, and the tally that is then reached; where it fails, the tally with which it began.
+#[derive(Clone, Copy, Debug, PartialEq, Eq)]
 pub struct Ended {
     pub tally: Tally,
-    pub end: End,
-}
-
-// What is said of the buffer and of the document before the work.
-#[derive(Clone, Copy)]
-pub enum Verdict {
-    Fine,
-    Buffer,
-    Document(DocumentFault),
-}
-
-fn wide(x: u16) -> usize
-    ensures { result ≡ x }
-{
-    x as usize
+    pub end: Result<u16, RunFault>,
 }
 
 // The place to which a call goes: child 0 is the node itself, 1 the left child, right behind it, and 2 the right one, where the left one
@@ -93,13 +77,11 @@ fn child_place(plan: &Plan, place: usize, child: u16) -> usize
     requires { (child ≡ 0 → ⊥) → place + 1 < most_numbers }
     ensures { result ≡ plan_child plan.now place child }
 {
-    if child == 0 {
-        return place;
+    match child {
+        0 => place,
+        1 => place + 1,
+        _ => plan.end_of(place + 1),
     }
-    if child == 1 {
-        return place + 1;
-    }
-    end_of(plan, place + 1)
 }
 
 // The row that a parameter stands for.
@@ -109,15 +91,16 @@ fn parameter_row(name: u16, given: RowPair) -> u16
     if name == 1 { given.first } else { given.second }
 }
 
-// How many operands a node has that is no parameter.
+// How many operands a node has that is no parameter. Tags are numbers here, since nodes are read as they are handed in: an enum made of one
+// at each step would be a second copy of it.
 fn operand_count(plan: &Plan, node: Node) -> u16
     requires { (node.tag ≡ 1 → ⊥) → node.name < most_procedures }
     ensures { result ≡ plan_operands plan.now (node_of node) }
 {
-    if node.tag == 1 {
-        if node.name == 0 { 0 } else { 2 }
-    } else {
-        count_of(plan, Procedure(node.name))
+    match (node.tag, node.name) {
+        (1, 0) => 0,
+        (1, _) => 2,
+        _ => plan.count_of(Procedure(node.name)),
     }
 }
 
@@ -126,9 +109,9 @@ fn operand_node(node: Node, number: u16) -> usize
     ensures { result ≡ operand_node number (node_of node) }
 {
     if number == 1 {
-        wide(node.first)
+        usize::from(node.first)
     } else {
-        wide(node.second)
+        usize::from(node.second)
     }
 }
 
@@ -138,20 +121,18 @@ fn add_row(rows: &mut [u16], tally: Tally, symbol: Symbol, left: u16, right: u16
     ensures { add_row (row_count rows.old) symbol.0 left right (work_of tally rows.old) ≡ step_of (row_count rows.old) result rows.new }
 {
     let used = tally.used;
-    let at = 3 * wide(used);
+    let at = 3 * usize::from(used);
     if rows.len() < at + 3 {
-        return Outcome::NoRow;
+        return Err(RunFault::NoRow);
     }
     rows[at] = symbol.0;
     rows[at + 1] = left;
     rows[at + 2] = right;
-    Outcome::Made(
-        used,
-        Tally {
-            used: used + 1,
-            calls: tally.calls,
-        },
-    )
+    let after = Tally {
+        used: used + 1,
+        ..tally
+    };
+    Ok((used, after))
 }
 
 // Evaluates a node at a place of the document, with the rows of the parameters: its operands, left before right, then what
@@ -169,18 +150,12 @@ fn evaluate(
     requires rows_len_bound { length rows.old ≤ 12288 }
     ensures { EvaluatesIn plan.now place node given.first given.second rows.old tally result rows.new }
 {
-    let here = node_of(plan, node);
+    let here = plan.node(node);
     if here.tag == 0 {
-        return Outcome::Made(parameter_row(here.name, given), tally);
+        return Ok((parameter_row(here.name, given), tally));
     }
-    let x = operand(plan, node, 1, place, given, rows, tally);
-    let Outcome::Made(left, after_left) = x else {
-        return x;
-    };
-    let y = operand(plan, node, 2, place, given, rows, after_left);
-    let Outcome::Made(right, after_right) = y else {
-        return y;
-    };
+    let (left, after_left) = operand(plan, node, 1, place, given, rows, tally)?;
+    let (right, after_right) = operand(plan, node, 2, place, given, rows, after_left)?;
     let operands = RowPair {
         first: left,
         second: right,
@@ -203,9 +178,9 @@ fn operand(
     requires between { Between 1 2 number × (length rows.old ≤ 12288) }
     ensures { OperatesIn plan.now place node number given.first given.second rows.old tally result rows.new }
 {
-    let here = node_of(plan, node);
+    let here = plan.node(node);
     if operand_count(plan, here) < number {
-        return Outcome::Made(0, tally);
+        return Ok((0, tally));
     }
     let smaller = operand_node(here, number);
     evaluate(plan, smaller, place, given, rows, tally)
@@ -225,7 +200,7 @@ fn apply(
     requires rows_len_bound { length rows.old ≤ 12288 }
     ensures { AppliesIn plan.now place node operands.first operands.second rows.old tally result rows.new }
 {
-    let here = node_of(plan, node);
+    let here = plan.node(node);
     if here.tag == 1 {
         return add_row(
             rows,
@@ -254,19 +229,17 @@ fn call(
     requires rows_len_bound { length rows.old ≤ 12288 }
     ensures { CallsIn plan.now place procedure.0 given.first given.second rows.old tally result rows.new }
 {
-    let calls = tally.calls;
-    let most = most_calls(plan);
-    let side = sought_side(plan, procedure, symbol_of(plan, place));
-    if most <= calls {
-        return Outcome::TooManyCalls(most);
+    let most = plan.most_calls();
+    let side = plan.sought_side(procedure, plan.symbol_at(place));
+    if most <= tally.calls {
+        return Err(RunFault::TooManyCalls(most));
     }
-    if MOST_NODES <= side {
-        return Outcome::NoRule(procedure);
-    }
-    let next = calls + 1;
+    let Some(side) = side else {
+        return Err(RunFault::NoRule(procedure));
+    };
     let counted = Tally {
-        used: tally.used,
-        calls: next,
+        calls: tally.calls + 1,
+        ..tally
     };
     evaluate(plan, side, place, given, rows, counted)
 }
@@ -276,21 +249,13 @@ fn end_with(before: Tally, outcome: Outcome) -> Ended
     ensures { result ≡ ended_of before outcome }
 {
     match outcome {
-        Outcome::Made(root, after) => Ended {
+        Ok((root, after)) => Ended {
             tally: after,
-            end: End::Root(root),
+            end: Ok(root),
         },
-        Outcome::NoRule(procedure) => Ended {
+        Err(fault) => Ended {
             tally: before,
-            end: End::NoRule(procedure),
-        },
-        Outcome::NoRow => Ended {
-            tally: before,
-            end: End::NoRow,
-        },
-        Outcome::TooManyCalls(most) => Ended {
-            tally: before,
-            end: End::TooManyCalls(most),
+            end: Err(fault),
         },
     }
 }
@@ -309,9 +274,9 @@ fn start(plan: &Plan, rows: &mut [u16], tally: Tally) -> Ended
 }
 
 // The same with the tally lent: it goes forward by value, and what comes back is stored.
-fn start_lent<'a, 'b, 'c>(plan: &'a Plan, rows: &'b mut [u16], tally: &'c mut Tally) -> End
+fn start_lent(plan: &Plan, rows: &mut [u16], tally: &mut Tally) -> Result<u16, RunFault>
     requires { CallableIn plan.now 0 0 × (length rows.old ≤ 12288) }
-    ensures { StartsIn plan.now rows.old tally.entry.now (record { tally = tally.exit.now; end = result }) rows.new }
+    ensures { StartsIn plan.now rows.old tally.old (record { tally = tally.new; end = result }) rows.new }
 {
     let next = start(plan, rows, *tally);
     *tally = next.tally;
@@ -326,7 +291,7 @@ fn fresh_tally() -> Tally
 }
 
 // The same with a tally of its own, lent to the work and read when it is back.
-fn start_anew<'a, 'b>(plan: &'a Plan, rows: &'b mut [u16]) -> Ended
+fn start_anew(plan: &Plan, rows: &mut [u16]) -> Ended
     requires { CallableIn plan.now 0 0 × (length rows.old ≤ 12288) }
     ensures { StartsIn plan.now rows.old (record { used = 0; calls = 0 }) result rows.new }
 {
@@ -339,172 +304,107 @@ fn start_anew<'a, 'b>(plan: &'a Plan, rows: &'b mut [u16]) -> Ended
 fn clear_from(rows: &mut [u16], from: usize)
     ensures { rows.new ≡ zero_filled (length rows.old) (take from rows.old) }
 {
-    let mut i = from;
-    while i < rows.len() {
-        rows[i] = 0;
-        i += 1;
-    }
+    let kept = from.min(rows.len());
+    rows[kept..].fill(0);
 }
 
 // How many numbers of the buffer stand at the end of the work.
-fn numbers_kept(end: End, tally: Tally) -> usize
+fn numbers_kept(end: Result<u16, RunFault>, tally: Tally) -> usize
     ensures { result ≡ numbers_kept end tally }
 {
-    let End::Root(_) = end else {
-        return 0;
-    };
-    3 * wide(tally.used)
+    end.map_or(0, |_| 3 * usize::from(tally.used))
 }
 
-// The answer to the work's end, where so many rows are free at first and the document took so many numbers.
-fn answer_of(end: End, tally: Tally, free: usize, taken: usize) -> RunningAnswer
-    ensures { running_answer result ≡ end_answer free taken end tally }
+// The refusal of a run that a fault ends, where so many rows are free at first.
+fn refusal_of(fault: RunFault, free: usize) -> RunningRefusal
+    ensures { running_refusal result ≡ fault_answer free fault }
 {
-    match end {
-        End::Root(root) => RunningAnswer::Ran(wide(root), wide(tally.used), taken),
-        End::NoRule(procedure) => RunningAnswer::NoRule(procedure),
-        End::NoRow => RunningAnswer::NoRow(free),
-        End::TooManyCalls(most) => RunningAnswer::TooManyCalls(most as usize),
+    match fault {
+        RunFault::NoRule(procedure) => RunningRefusal::NoRule(procedure),
+        RunFault::NoRow => RunningRefusal::NoRow(free),
+        RunFault::TooManyCalls(most) => RunningRefusal::TooManyCalls(most as usize),
     }
 }
 
-// Runs procedure 0 on a document, which is all of the numbers, with room for where the trees of its places end.
-fn run_with(
-    stay: Symbol,
-    counts: &[u16],
-    nodes: &[u16],
-    rules: &[u16],
-    numbers: &[u16],
-    ends: &mut [u16],
-    rows: &mut [u16],
-) -> RunningAnswer
-    requires { Admitted (transformation_of stay.0 counts.now nodes.now rules.now) × ReadDocument numbers.now × (length numbers.now ≤ length ends.old) × (length rows.old ≤ 12288) }
-    ensures { Closes (transformation_of stay.0 counts.now nodes.now rules.now) numbers.now rows.old result rows.new }
+// The answer to the work's end, where so many rows are free at first and the document took so many numbers.
+fn answer_of(
+    end: Result<u16, RunFault>,
+    tally: Tally,
+    free: usize,
+    taken: usize,
+) -> Result<Ran, RunningRefusal>
+    ensures { running_answer result ≡ end_answer free taken end tally }
 {
-    fill_ends(numbers, ends);
-    let mut table = blank_plan();
-    fill_plan(&mut table, stay, counts, nodes, rules, numbers, ends);
-    let work = start_anew(&table, rows);
-    let end = work.end;
-    let tally = work.tally;
+    let root = end.map_err(|fault| refusal_of(fault, free))?;
+    Ok(Ran {
+        root: usize::from(root),
+        used: usize::from(tally.used),
+        taken,
+    })
+}
+
+// Runs procedure 0 on a document, which is all of the numbers, with room for where the trees of N places end.
+// That the contract is admitted is asked here and of the two functions that call this, one after the other: a type that holds it would
+// be made and used once.
+fn run_with<const N: usize>(
+    contract: &ContractTables,
+    numbers: &[u16],
+    rows: &mut [u16],
+) -> Result<Ran, RunningRefusal>
+    requires admitted { Admitted (handed contract.now).transformation }
+    requires document { ReadDocument numbers.now }
+    requires numbers_len_bound { (length numbers.now ≤ N) × (N ≤ most_numbers) }
+    requires rows_len_bound { length rows.old ≤ 12288 }
+    ensures { Closes (handed contract.now).transformation numbers.now rows.old result rows.new }
+{
+    let mut ends = [0u16; N];
+    fill_ends(numbers, &mut ends);
+    let mut plan = Plan::blank();
+    plan.fill(contract, numbers, &ends);
+    let Ended { tally, end } = start_anew(&plan, rows);
     clear_from(rows, numbers_kept(end, tally));
     answer_of(end, tally, rows.len() / 3, numbers.len())
 }
 
 // Runs procedure 0 on a document. There is room for the ends of sixteen trees or of as many as there may be.
 fn run_document(
-    stay: Symbol,
-    counts: &[u16],
-    nodes: &[u16],
-    rules: &[u16],
+    contract: &ContractTables,
     numbers: &[u16],
     rows: &mut [u16],
-) -> RunningAnswer
-    requires { Admitted (transformation_of stay.0 counts.now nodes.now rules.now) × ReadDocument numbers.now × (length rows.old ≤ 12288) }
-    ensures { Closes (transformation_of stay.0 counts.now nodes.now rules.now) numbers.now rows.old result rows.new }
+) -> Result<Ran, RunningRefusal>
+    requires { Admitted (handed contract.now).transformation × ReadDocument numbers.now × (length rows.old ≤ 12288) }
+    ensures { Closes (handed contract.now).transformation numbers.now rows.old result rows.new }
 {
     if numbers.len() <= 16 {
-        let mut ends = [0u16; 16];
-        return run_with(stay, counts, nodes, rules, numbers, &mut ends, rows);
+        return run_with::<16>(contract, numbers, rows);
     }
-    let mut ends = [0u16; 1023];
-    run_with(stay, counts, nodes, rules, numbers, &mut ends, rows)
-}
-
-// Refusal 9: the row buffer is no whole number of rows, or too many.
-fn buffer_verdict(lent: usize) -> Verdict
-    ensures { verdict_of result ≡ refuse_if (rows_wrong lent) 9 0 }
-{
-    if (lent % 3 != 0) | (12288 < lent) {
-        return Verdict::Buffer;
-    }
-    Verdict::Fine
-}
-
-// Refusals 11 and 12: the numbers begin with no document.
-fn document_verdict(reading: Reading) -> Verdict
-    ensures { verdict_of result ≡ reading_verdict reading }
-{
-    match reading {
-        Reading::Takes(_) => Verdict::Fine,
-        Reading::Refused(fault) => Verdict::Document(fault),
-    }
-}
-
-// The first refusal of two verdicts, if there is one.
-fn first_refusal(one: Verdict, next: Verdict) -> Verdict
-    ensures { verdict_of result ≡ (verdict_of one then verdict_of next) }
-{
-    let Verdict::Fine = one else {
-        return one;
-    };
-    next
-}
-
-// What is said before the work: the buffer's refusal comes before the document's.
-fn verdict_before(reading: Reading, lent: usize) -> Verdict
-    ensures { verdict_of result ≡ (refuse_if (rows_wrong lent) 9 0 then reading_verdict reading) }
-{
-    let buffer = buffer_verdict(lent);
-    let document = document_verdict(reading);
-    first_refusal(buffer, document)
+    run_with::<1023>(contract, numbers, rows)
 }
 
 // Runs an admitted transformation, where neither the buffer nor the document is refused; nothing is written where one is.
 fn run_admitted(
-    symbols: usize,
-    counts: &[u16],
-    nodes: &[u16],
-    rules: &[u16],
+    contract: &ContractTables,
     numbers: &[u16],
     rows: &mut [u16],
-) -> RunningAnswer
-    requires { Admitted (transformation_of symbols counts.now nodes.now rules.now) }
-    ensures { EndsWith (after_admission (transformation_of symbols counts.now nodes.now rules.now) numbers.now rows.old) (running_answer result) rows.new }
+) -> Result<Ran, RunningRefusal>
+    requires { Admitted (handed contract.now).transformation }
+    ensures { EndsWith (after_admission (handed contract.now).transformation numbers.now rows.old) (running_answer result) rows.new }
 {
-    let reading = read(symbols, numbers);
-    let taken = taken_of(reading);
-    let stay = symbols as u16;
-    match verdict_before(reading, rows.len()) {
-        Verdict::Buffer => RunningAnswer::Buffer,
-        Verdict::Document(fault) => RunningAnswer::Document(fault),
-        Verdict::Fine => run_document(Symbol(stay), counts, nodes, rules, &numbers[..taken], rows),
+    if tuples_wrong(3, MOST_ROWS, rows.len()) {
+        return Err(RunningRefusal::Buffer);
     }
+    let taken = read(contract.symbols, numbers)?;
+    run_document(contract, &numbers[..taken], rows)
 }
 
 // Runs a contract's transformation on the document that the numbers begin with: the answer, with the rows in the buffer.
 pub fn run(
-    symbols: usize,
-    input_states: usize,
-    output_states: usize,
-    counts: &[u16],
-    input_rows: &[u16],
-    input_marks: &[u16],
-    output_table: &[u16],
-    output_marks: &[u16],
-    nodes: &[u16],
-    rules: &[u16],
+    contract: &ContractTables,
     numbers: &[u16],
     rows: &mut [u16],
-) -> RunningAnswer
-    ensures { EndsWith (running (contract symbols input_states output_states counts.now input_rows.now input_marks.now
-        output_table.now output_marks.now nodes.now rules.now) numbers.now rows.old)
-        (running_answer result) rows.new }
+) -> Result<Ran, RunningRefusal>
+    ensures { EndsWith (running (handed contract.now) numbers.now rows.old) (running_answer result) rows.new }
 {
-    let admitted = admit(
-        symbols,
-        input_states,
-        output_states,
-        counts,
-        input_rows,
-        input_marks,
-        output_table,
-        output_marks,
-        nodes,
-        rules,
-    );
-    if let AdmissionAnswer::Refused(fault) = admitted {
-        return RunningAnswer::Contract(fault);
-    }
-    run_admitted(symbols, counts, nodes, rules, numbers, rows)
+    admit(contract)?;
+    run_admitted(contract, numbers, rows)
 }

@@ -1,4 +1,3 @@
 -- Laws that the functions' proofs cite.
 pub mod Stretches
 pub mod Listings
-pub mod Readings

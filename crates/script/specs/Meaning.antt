@@ -1,5 +1,5 @@
 -- Meaning: what a script prints. Its statements are taken one after another; each changes the state and prints its lines.
-use Rattle.std.specs.Prelude.{Bool, true, false, ◌&&◌, not, List, [], ◌∷◌, ◌++◌, ℕ, zero, suc, ◌+◌, ◌*◌, ◌-◌, leb, ltb, length, get_or, take, set, replicate}
+use Rattle.std.specs.Prelude.{Bool, true, ◌&&◌, not, List, [], ◌∷◌, ◌++◌, ℕ, zero, suc, ◌+◌, ◌*◌, ◌-◌, leb, ltb, length, get_or, take, set, replicate, Option, Some, None, Result, Ok, Err}
 use Rattle.foundation.specs.Tests.{choose}
 use Rattle.foundation.specs.Lists.{same_list}
 use Rattle.model.specs.Tables.{Contract, contract}
@@ -23,6 +23,7 @@ use Rattle.lexing.specs.declared.words.Size.TheVariants as size
 use Rattle.lexing.specs.declared.words.Table.{Table}
 use Rattle.lexing.specs.declared.words.Table.TheVariants as table
 use Rattle.script.specs.declared.statements.Listed.TheVariants as listed
+use Rattle.script.specs.declared.statements.Reading.{Reading}
 use Rattle.script.specs.declared.statements.Statement.{Statement}
 use Rattle.script.specs.declared.statements.Statement.TheVariants as statement
 
@@ -193,8 +194,6 @@ module _ (state : State) where
 
   -- a statement with the numbers of its list; `text` is where a label stands
   unfoldable pub step : (text : List ℕ) → Statement → List ℕ → Step
-  step text statement.End values = quiet state
-  step text (statement.Fault f) values = quiet state
   step text (statement.Case span) values = quiet (with_label state (bytes_of text span))
   step text (statement.Size z n) values = quiet (with_size state z n)
   step text (statement.List (listed.Table t) count) values = quiet (with_table state t values)
@@ -235,41 +234,19 @@ fault_line text f =
     phrases.line_of ++ decimal (suc (newlines (take f.span.start text))) ++ phrases.found_text ++ found_text text f ++ phrases.expected_text
     ++ expected_text f.expected ++ (10 ∷ [])
 
--- a script stops at its end and at a fault
-abbrev pub goes_on_after : Statement → Bool
-goes_on_after statement.End = false
-goes_on_after (statement.Fault f) = false
-goes_on_after (statement.Case span) = true
-goes_on_after (statement.Size z n) = true
-goes_on_after (statement.List l count) = true
-goes_on_after statement.Admit = true
-goes_on_after (statement.Check limit) = true
-goes_on_after (statement.Write row room) = true
-goes_on_after statement.Show = true
-
--- what it then prints
-abbrev pub stop_text : List ℕ → Statement → List ℕ
-stop_text text statement.End = []
-stop_text text (statement.Fault f) = fault_line text f
-stop_text text (statement.Case span) = []
-stop_text text (statement.Size z n) = []
-stop_text text (statement.List l count) = []
-stop_text text statement.Admit = []
-stop_text text (statement.Check limit) = []
-stop_text text (statement.Write row room) = []
-stop_text text statement.Show = []
-
 module _ (text : List ℕ) (cut : Bool) where
-  -- `next` is what is printed from the state and the place behind the statement on
-  abbrev pub play_step : (State → ℕ → List ℕ) → State → Read → List ℕ
-  play_step next state r =
-      let s : Step = step state text r.reading.statement r.values in
-      choose (goes_on_after r.reading.statement) (s.printed ++ next s.state r.reading.next) (stop_text text r.reading.statement)
+  -- a script stops at its end, and at a fault; `next` is what is printed from the state and the place behind the statement on
+  abbrev pub play_step : (State → ℕ → List ℕ) → State → List ℕ → Result (Option Reading) Fault → List ℕ
+  play_step next state values (Ok (Some r)) = let s : Step = step state text r.statement values in s.printed ++ next s.state r.next
+  play_step next state values (Ok None) = []
+  play_step next state values (Err f) = fault_line text f
 
   -- what is printed from a place on, of at most so many statements
   unfoldable pub played : ℕ → State → ℕ → List ℕ
   played zero state at = []
-  played (suc n) state at = play_step (played n) state (statement_at text cut (most_numbers - state.used) at)
+  played (suc n) state at =
+      let r : Read (Option Reading) = statement_at text cut (most_numbers - state.used) at in
+      play_step (played n) state r.values r.reading
 
   -- `help` is the only word
   abbrev pub asks_help : Bool

@@ -3,11 +3,11 @@ ghost use Rattle.std.specs.Prelude.{◌≡◌, length};
 ghost use Rattle.script.specs.Spans.{overwritten};
 ghost use Rattle.script.specs.Statements.{name_at, size_at, check_at, write_at, list_at, run_at, word_at, statement_at};
 
-use crate::spans::{Due, Expected, Fault, Numbers, Span, due_number, next_span, read_numbers};
+use crate::spans::{Expected, Fault, Span, due_number, read_numbers, whole_span};
 use lexing::words::{Size, Table, Word, read_word};
 
 // What a list of numbers is for.
-#[derive(Clone, Copy)]
+#[derive(Clone, Copy, Debug, PartialEq, Eq)]
 pub enum Listed {
     Table(Table),
     Rows,
@@ -16,11 +16,8 @@ pub enum Listed {
     Run(u16),
 }
 
-#[derive(Clone, Copy)]
+#[derive(Clone, Copy, Debug, PartialEq, Eq)]
 pub enum Statement {
-    // There is no statement any more.
-    End,
-    Fault(Fault),
     // A label.
     Case(Span),
     Size(Size, u16),
@@ -35,138 +32,105 @@ pub enum Statement {
 }
 
 // A statement, and the place behind it.
-#[derive(Clone, Copy)]
+#[derive(Clone, Copy, Debug, PartialEq, Eq)]
 pub struct Reading {
     pub statement: Statement,
     pub next: usize,
 }
 
 // The label behind `case`.
-fn read_name(text: &[u8], cut: bool, at: usize) -> Reading
+#[tactic(auto, unfolding(crate::specs::Statements::name_at))]
+fn read_name(text: &[u8], cut: bool, at: usize) -> Result<Reading, Fault>
     ensures { result ≡ name_at text.now cut at }
 {
-    let span = next_span(text, at);
-    let start = span.start;
-    let end = span.end;
-    if cut & (text.len() <= end) {
-        return Reading {
-            statement: Statement::Fault(Fault {
-                span: span,
-                expected: Expected::End,
-            }),
-            next: at,
-        };
+    let span = whole_span(text, cut, at)?;
+    if text.len() <= span.start {
+        return Err(Fault {
+            span,
+            expected: Expected::Name,
+        });
     }
-    if text.len() <= start {
-        return Reading {
-            statement: Statement::Fault(Fault {
-                span: span,
-                expected: Expected::Name,
-            }),
-            next: at,
-        };
-    }
-    Reading {
+    Ok(Reading {
         statement: Statement::Case(span),
-        next: end,
-    }
+        next: span.end,
+    })
 }
 
 // The number behind the word of a size.
-fn read_size(text: &[u8], cut: bool, at: usize, size: Size) -> Reading
+#[tactic(auto, unfolding(crate::specs::Statements::size_at))]
+fn read_size(text: &[u8], cut: bool, at: usize, size: Size) -> Result<Reading, Fault>
     ensures { result ≡ size_at text.now cut at size }
 {
-    let due = due_number(text, cut, at);
-    match due {
-        Due::Number(value, next) => Reading {
-            statement: Statement::Size(size, value),
-            next: next,
-        },
-        Due::Fault(fault) => Reading {
-            statement: Statement::Fault(fault),
-            next: at,
-        },
-    }
+    let (value, next) = due_number(text, cut, at)?;
+    Ok(Reading {
+        statement: Statement::Size(size, value),
+        next,
+    })
 }
 
 // The limit behind `check`.
-fn read_check(text: &[u8], cut: bool, at: usize) -> Reading
+#[tactic(auto, unfolding(crate::specs::Statements::check_at))]
+fn read_check(text: &[u8], cut: bool, at: usize) -> Result<Reading, Fault>
     ensures { result ≡ check_at text.now cut at }
 {
-    let due = due_number(text, cut, at);
-    match due {
-        Due::Number(limit, next) => Reading {
-            statement: Statement::Check(limit),
-            next: next,
-        },
-        Due::Fault(fault) => Reading {
-            statement: Statement::Fault(fault),
-            next: at,
-        },
-    }
+    let (limit, next) = due_number(text, cut, at)?;
+    Ok(Reading {
+        statement: Statement::Check(limit),
+        next,
+    })
 }
 
 // The row and the room behind `write`.
-fn read_write(text: &[u8], cut: bool, at: usize) -> Reading
+#[tactic(auto, unfolding(crate::specs::Statements::write_at))]
+fn read_write(text: &[u8], cut: bool, at: usize) -> Result<Reading, Fault>
     ensures { result ≡ write_at text.now cut at }
 {
-    let first = due_number(text, cut, at);
-    match first {
-        Due::Number(row, behind) => {
-            let second = due_number(text, cut, behind);
-            match second {
-                Due::Number(room, next) => Reading {
-                    statement: Statement::Write(row, room),
-                    next: next,
-                },
-                Due::Fault(fault) => Reading {
-                    statement: Statement::Fault(fault),
-                    next: behind,
-                },
-            }
-        }
-        Due::Fault(fault) => Reading {
-            statement: Statement::Fault(fault),
-            next: at,
-        },
-    }
+    let (row, behind) = due_number(text, cut, at)?;
+    let (room, next) = due_number(text, cut, behind)?;
+    Ok(Reading {
+        statement: Statement::Write(row, room),
+        next,
+    })
 }
 
 // A list of numbers.
-fn read_list(text: &[u8], cut: bool, at: usize, listed: Listed, buffer: &mut [u16]) -> Reading
+#[tactic(auto, unfolding(crate::specs::Statements::list_at))]
+fn read_list(
+    text: &[u8],
+    cut: bool,
+    at: usize,
+    listed: Listed,
+    buffer: &mut [u16],
+) -> Result<Reading, Fault>
     ensures value { result ≡ (list_at text.now cut (length buffer.old) at listed).reading }
     ensures buffer_after { buffer.new ≡ overwritten (list_at text.now cut (length buffer.old) at listed).values buffer.old }
 {
-    let numbers = read_numbers(text, cut, at, buffer);
-    match numbers {
-        Numbers::Ended(count, next) => Reading {
-            statement: Statement::List(listed, count),
-            next: next,
-        },
-        Numbers::Fault(fault) => Reading {
-            statement: Statement::Fault(fault),
-            next: at,
-        },
-    }
+    let (count, next) = read_numbers(text, cut, at, buffer)?;
+    Ok(Reading {
+        statement: Statement::List(listed, count),
+        next,
+    })
 }
 
 // The rows and the document behind `run`.
-fn read_run(text: &[u8], cut: bool, at: usize, buffer: &mut [u16]) -> Reading
+#[tactic(auto, unfolding(crate::specs::Statements::run_at))]
+fn read_run(text: &[u8], cut: bool, at: usize, buffer: &mut [u16]) -> Result<Reading, Fault>
     ensures value { result ≡ (run_at text.now cut (length buffer.old) at).reading }
     ensures buffer_after { buffer.new ≡ overwritten (run_at text.now cut (length buffer.old) at).values buffer.old }
 {
-    let due = due_number(text, cut, at);
-    match due {
-        Due::Number(rows, next) => read_list(text, cut, next, Listed::Run(rows), buffer),
-        Due::Fault(fault) => Reading {
-            statement: Statement::Fault(fault),
-            next: at,
-        },
-    }
+    let (rows, next) = due_number(text, cut, at)?;
+    read_list(text, cut, next, Listed::Run(rows), buffer)
 }
 
 // The rest of a statement, behind its word.
-fn after_word(text: &[u8], cut: bool, span: Span, word: Word, buffer: &mut [u16]) -> Reading
+#[tactic(auto, unfolding(crate::specs::Statements::word_at))]
+fn after_word(
+    text: &[u8],
+    cut: bool,
+    span: Span,
+    word: Word,
+    buffer: &mut [u16],
+) -> Result<Reading, Fault>
     ensures value { result ≡ (word_at text.now cut (length buffer.old) span word).reading }
     ensures buffer_after { buffer.new ≡ overwritten (word_at text.now cut (length buffer.old) span word).values buffer.old }
 {
@@ -176,51 +140,40 @@ fn after_word(text: &[u8], cut: bool, span: Span, word: Word, buffer: &mut [u16]
         Word::Size(size) => read_size(text, cut, end, size),
         Word::Table(table) => read_list(text, cut, end, Listed::Table(table), buffer),
         Word::Rows => read_list(text, cut, end, Listed::Rows, buffer),
-        Word::Admit => Reading {
+        Word::Admit => Ok(Reading {
             statement: Statement::Admit,
             next: end,
-        },
+        }),
         Word::Judge => read_list(text, cut, end, Listed::Judge, buffer),
         Word::Check => read_check(text, cut, end),
         Word::Run => read_run(text, cut, end, buffer),
         Word::Write => read_write(text, cut, end),
-        Word::Show => Reading {
+        Word::Show => Ok(Reading {
             statement: Statement::Show,
             next: end,
-        },
-        Word::Unknown => Reading {
-            statement: Statement::Fault(Fault {
-                span: span,
-                expected: Expected::Statement,
-            }),
-            next: span.start,
-        },
+        }),
+        Word::Unknown => Err(Fault {
+            span,
+            expected: Expected::Statement,
+        }),
     }
 }
 
-// Reads the statement at a place.
-pub fn read_statement(text: &[u8], cut: bool, at: usize, buffer: &mut [u16]) -> Reading
+// Reads the statement at a place, if there is one any more.
+#[tactic(auto, unfolding(crate::specs::Statements::statement_at))]
+pub fn read_statement(
+    text: &[u8],
+    cut: bool,
+    at: usize,
+    buffer: &mut [u16],
+) -> Result<Option<Reading>, Fault>
     ensures value { result ≡ (statement_at text.now cut (length buffer.old) at).reading }
     ensures buffer_after { buffer.new ≡ overwritten (statement_at text.now cut (length buffer.old) at).values buffer.old }
 {
-    let span = next_span(text, at);
-    let start = span.start;
-    let end = span.end;
-    if cut & (text.len() <= end) {
-        return Reading {
-            statement: Statement::Fault(Fault {
-                span: span,
-                expected: Expected::End,
-            }),
-            next: at,
-        };
+    let span = whole_span(text, cut, at)?;
+    if text.len() <= span.start {
+        return Ok(None);
     }
-    if text.len() <= start {
-        return Reading {
-            statement: Statement::End,
-            next: at,
-        };
-    }
-    let word = read_word(&text[start..end]);
-    after_word(text, cut, span, word, buffer)
+    let word = read_word(&text[span.start..span.end]);
+    Ok(Some(after_word(text, cut, span, word, buffer)?))
 }

@@ -3,10 +3,13 @@
 use mathlib.Core.Path.{◌≡◌, refl, ap, sym, ◌∙◌}
 use mathlib.Core.Bool.{true, false}
 use mathlib.Core.List.{List}
-use Prim.Native.Nat.{ℕ, zero, suc, ◌+◌, ◌*◌, ◌-◌, ◌/◌, ◌<◌, ◌≤◌}
+use Prim.Native.Nat.{ℕ, zero, suc, ◌+◌, ◌*◌, ◌/◌, ◌<◌, ◌≤◌}
 use native.Mathlib.Omega.{arith}
 use native.Mathlib.Decide.{ℕ_discrete}
 use borrow.Author.Tests.{ne_eqb, eq-eqb}
+use borrow.Rule.Slice.PartMut.{post_of}
+use Rattle.std.proofs.Common.{take, drop, replicate, ◌++◌}
+use Rattle.std.proofs.lemmas.List.{length-append, length-drop, length-take-le, length-replicate, get_or-replicate, get_or_append_left}
 use lib.ListN.{length, get_or, set, length-set}
 use lib.Seq.{get_or-set_same, get_or-set_other}
 use Rattle.foundation.specs.Tests.{some_below, some_intro, test_true, true_test, test_false}
@@ -124,31 +127,18 @@ pub record Reached (words mask seen : List ℕ) (entry next : ℕ) : Type 0 wher
   pub same : some_looks_so words mask entry seen ≡ some_looks_so words mask next seen
   pub leaves : EntryOf words mask (remainder_of seen) next
 
-module _ (words mask seen chains : List ℕ) (entry next : ℕ) (reached : Reached words mask seen entry next) (some : 0 < next) where
-  row_before : (k : ℕ) → next ≡ suc k → looks_so words mask seen k ≡ true → some_looks_so words mask entry seen ≡ true
-  row_before k e t = reached.same ∙ ap (λ (n : ℕ). some_looks_so words mask n seen) e ∙ test_true _ (some_intro (suc k) (looks_so words mask seen) k (omega arith) (true_test _ t))
-
+module _ (words mask seen chains : List ℕ) (entry next k : ℕ) (reached : Reached words mask seen entry next) (after : next ≡ suc k) where
   -- the row looks so
-  pub reached_row : looks_so words mask seen (next - 1) ≡ true → some_looks_so words mask entry seen ≡ true
-  reached_row t = row_before (next - 1) (omega arith) t
+  pub reached_row : looks_so words mask seen k ≡ true → some_looks_so words mask entry seen ≡ true
+  reached_row t = reached.same ∙ ap (λ (n : ℕ). some_looks_so words mask n seen) after ∙ test_true _ (some_intro (suc k) (looks_so words mask seen) k (omega arith) (true_test _ t))
 
   -- it does not, so the search goes on behind it
-  pub reached_behind : (behind : ℕ) → Behind words mask entry chains → behind ≡ get_or chains (4095 + next) 0 → looks_so words mask seen (next - 1) ≡ false
+  pub reached_behind : (behind : ℕ) → Behind words mask entry chains → behind ≡ get_or chains (4096 + k) 0 → looks_so words mask seen k ≡ false
       → (behind < next) × Reached words mask seen entry behind
   reached_behind behind chained here f = (omega (arith, is, latest_le words mask (remainder_of seen) k), record { within = omega (arith, is, latest_le words mask (remainder_of seen) k, reached.within); same = reached.same ∙ down; leaves = λ j e. latest_entry words mask (remainder_of seen) k j (sym is ∙ e) })
     where
-      k : ℕ
-      k = next - 1
-
-      after : next ≡ suc k
-      after = omega arith
-
       is : behind ≡ latest words mask (remainder_of seen) k
-      is =
-          here
-          ∙ ap (λ (i : ℕ). get_or chains i 0) (omega arith)
-          ∙ chained k (omega (arith, reached.within))
-          ∙ ap (λ (r : ℕ). latest words mask r k) (reached.leaves k after)
+      is = here ∙ chained k (omega (arith, reached.within)) ∙ ap (λ (r : ℕ). latest words mask r k) (reached.leaves k after)
 
       down : some_looks_so words mask next seen ≡ some_looks_so words mask behind seen
       down =
@@ -196,3 +186,17 @@ front_asked words mask seen front few entry e = (
   omega (arith, e, front.within),
   omega (arith, e, front.within),
 )
+
+-- chains whose fronts are filled with 0 have no rows
+pub no_rows : (chains part : List ℕ) → length chains ≡ 8192 → part ≡ replicate (length (take 4096 chains)) 0 → NoRows 4096 (part ++ post_of 0 4096 chains)
+no_rows chains part long e =
+    record {
+      long = length-append part (drop 4096 chains) ∙ omega (arith, filled, length-drop 4096 chains);
+      none = λ remainder h. get_or_append_left part (drop 4096 chains) 0 remainder (omega (arith, filled)) ∙ rw e (get_or-replicate (length (take 4096 chains)) remainder 0 0 (omega (arith, full)));
+    }
+  where
+    full : length (take 4096 chains) ≡ 4096
+    full = length-take-le 4096 chains (omega arith)
+
+    filled : length part ≡ 4096
+    filled = rw e (length-replicate _ _ ∙ full)

@@ -18,9 +18,6 @@ pub const KINDS: usize = 4096;
 // For each remainder the front of its chain, and behind these for each row the one before it in its chain: 1 and the row, or 0 for none.
 pub const CHAINS: usize = 2 * KINDS;
 
-// An entry, which is 1 and a row, has the entry behind it so many places on.
-const BEHIND: usize = KINDS - 1;
-
 // Room for chains, and for the numbers of rows.
 pub fn room_for_chains() -> [u16; CHAINS] {
     [0u16; CHAINS]
@@ -31,6 +28,7 @@ pub fn room_for_rows() -> [u16; KINDS] {
 }
 
 // The remainder that what a mask shows of a kind leaves. The numbers are such that no two single bits of a kind leave the same.
+#[tactic(auto, unfolding(crate::specs::Chains::remainder_of))]
 fn remainder_of(seen: &[u64; 6]) -> usize
     ensures { result ≡ remainder_of seen.now }
 {
@@ -60,7 +58,8 @@ fn looks_so(words: &[u64], k: usize, mask: &[u64; 6], seen: &[u64; 6]) -> bool
     same_words(&row, seen)
 }
 
-// Whether a row of a chain looks so, from an entry on.
+// Whether a row of a chain looks so, from an entry on. The chain, and no count, tells the next row.
+#[tactic(auto, using(crate::proofs::Latest::reached_row, crate::proofs::Latest::reached_behind, crate::proofs::Latest::reached_end))]
 fn is_in_chain(
     words: &[u64],
     mask: &[u64; 6],
@@ -71,17 +70,18 @@ fn is_in_chain(
     requires { Behind words.now mask.now entry chains.now × EntryOf words.now mask.now (remainder_of seen.now) entry × (5 * entry ≤ length words.now) × (entry ≤ 4096) }
     ensures { result ≡ some_looks_so words.now mask.now entry seen.now }
 {
-    let mut next: usize = entry;
-    while next != 0 {
-        if looks_so(words, next - 1, mask, seen) {
+    let mut next = entry;
+    while let Some(k) = next.checked_sub(1) {
+        if looks_so(words, k, mask, seen) {
             return true;
         }
-        next = place_at(chains, BEHIND + next);
+        next = place_at(chains, KINDS + k);
     }
     false
 }
 
-// Whether a row of the list looks so.
+// Whether a row of the list looks so. The rows, the mask and the chains are an argument each: a caller puts the same rows in chains by one
+// mask after another, in one room.
 pub fn is_shown(words: &[u64], mask: &[u64; 6], chains: &[u16; CHAINS], seen: &[u64; 6]) -> bool
     requires { Chained words.now mask.now (length words.now / 5) chains.now × (length words.now ≤ 20480) }
     ensures { result ≡ some_looks_so words.now mask.now (length words.now / 5) seen.now }
@@ -95,21 +95,17 @@ fn put_in_front(chains: &mut [u16; CHAINS], remainder: usize, k: usize)
     requires { (remainder < 4096) × (k < 4096) }
     ensures { chains.new ≡ in_front chains.old remainder k }
 {
-    let front = chains[remainder];
-    chains[KINDS + k] = front;
+    chains[KINDS + k] = chains[remainder];
     chains[remainder] = (k + 1) as u16;
 }
 
 // Chains without rows.
+#[tactic(auto, using(crate::proofs::Latest::no_rows))]
 fn clear_fronts(chains: &mut [u16; CHAINS])
     requires { length chains.old ≡ 8192 }
     ensures { NoRows 4096 chains.new }
 {
-    let mut i: usize = 0;
-    while i < KINDS {
-        chains[i] = 0;
-        i += 1;
-    }
+    chains[..KINDS].fill(0);
 }
 
 // Notes row k behind so many first rows, unless it looks like an earlier row; returns how many they then are.
@@ -118,10 +114,11 @@ fn note_first(firsts: &mut [u16; KINDS], found: usize, k: usize, is_old: bool) -
     ensures { (result ≡ choose is_old found (suc found)) × (firsts.new ≡ choose is_old firsts.old (set firsts.old found k)) }
 {
     if is_old {
-        return found;
+        found
+    } else {
+        firsts[found] = k as u16;
+        found + 1
     }
-    firsts[found] = k as u16;
-    found + 1
 }
 
 // Puts row k in its chain, behind the rows before it; returns how many first rows there then are.
@@ -158,10 +155,8 @@ pub fn chain_rows(
     clear_fronts(chains);
     let count = words.len() / 5;
     let mut found: usize = 0;
-    let mut k: usize = 0;
-    while k < count {
+    for k in 0..count {
         found = put_row(words, mask, chains, firsts, found, k);
-        k += 1;
     }
     found
 }

@@ -4,15 +4,15 @@ use Rattle.model.specs.Tables.{input_row_count}
 use Rattle.lanes.specs.Layouts.{layout_of}
 use Rattle.kind_words.specs.Kind.{node_words, rule_facts}
 use Rattle.kind_words.specs.States.{row_states}
-use Rattle.prepared.specs.Parts.{contract_in, lists_in}
+use Rattle.prepared.specs.Contract.{contract_of, lists_of}
 use Rattle.prepared.specs.declared.Prepared.{Prepared}
 
-module _ (p : Prepared) (table : List ℕ) where
+module _ (p : Prepared) where
   -- the words of the nodes that the rules for s reach, where `before` is what the words were
   abbrev pub words_for : (s : ℕ) (left right before : List ℕ) → List ℕ
   words_for s left right before =
-      node_words (layout_of p.layout) p.offsets (lists_in p table) (contract_in p table).transformation.counts (contract_in p table).output.table
-      (contract_in p table).transformation.nodes
+      node_words (layout_of p.parts.layout) p.parts.offsets (lists_of p) (contract_of p).transformation.counts (contract_of p).output.table
+      (contract_of p).transformation.nodes
       before
       s
       left
@@ -21,8 +21,8 @@ module _ (p : Prepared) (table : List ℕ) where
   -- the facts of the rules for s
   abbrev pub facts_for : (s : ℕ) (words : List ℕ) → List ℕ
   facts_for s words =
-      rule_facts (layout_of p.layout) p.offsets (contract_in p table).transformation.counts (contract_in p table).transformation.rules s words
+      rule_facts (layout_of p.parts.layout) p.parts.offsets (contract_of p).transformation.counts (contract_of p).transformation.rules s words
 
   -- the input states that s reaches over the states in two words
   abbrev pub states_for : (s left right : ℕ) → ℕ
-  states_for s left right = row_states (contract_in p table).input.rows s left right (input_row_count (contract_in p table).input.rows)
+  states_for s left right = row_states (contract_of p).input.rows s left right (input_row_count (contract_of p).input.rows)

@@ -1,30 +1,30 @@
-// Typed numbers, the tests of each against how many there are, the tuples of the tables read by name, and how many nodes a node
-// refers to.
+// Typed numbers, the test of each against how many there are, a contract as it is handed in, the tuples of its tables read by name, and
+// how many nodes a node refers to.
 //
 // An input state, an output state, a procedure and a symbol are each a type of their own, so that code that hands one
 // where another is due does not build. A size (how many symbols there are) and a node or row number are plain numbers.
 #![tactic(auto)]
 
-ghost use Rattle.std.specs.Prelude.{◌≡◌, ◌<◌, leb, get_or, length};
+ghost use Rattle.std.specs.Prelude.{◌≡◌, ℕ, ◌*◌, ◌^◌, ◌<◌, ◌≤◌, leb, get_or, length};
 ghost use Rattle.model.specs.Rows.{row_at, row_count};
 ghost use Rattle.model.specs.Tables.{input_row, input_row_count, node_at, node_count, rule_at, rule_count, count_of};
-ghost use Rattle.model.specs.Admission.{references};
+ghost use Rattle.model.specs.Admission.{references, tuples_wrong};
 ghost use Rattle.tables.specs.Tuples.{input_row_of, node_of, rule_of, row_of};
 
-#[derive(Clone, Copy)]
+#[derive(Clone, Copy, Debug, PartialEq, Eq)]
 pub struct Symbol(pub u16);
 
-#[derive(Clone, Copy)]
+#[derive(Clone, Copy, Debug, PartialEq, Eq)]
 pub struct InputState(pub u16);
 
-#[derive(Clone, Copy)]
+#[derive(Clone, Copy, Debug, PartialEq, Eq)]
 pub struct OutputState(pub u16);
 
-#[derive(Clone, Copy)]
+#[derive(Clone, Copy, Debug, PartialEq, Eq)]
 pub struct Procedure(pub u16);
 
 // A row of an input type.
-#[derive(Clone, Copy)]
+#[derive(Clone, Copy, Debug, PartialEq, Eq)]
 pub struct InputRow {
     pub state: InputState,
     pub symbol: Symbol,
@@ -33,7 +33,7 @@ pub struct InputRow {
 }
 
 // An expression node. What `name` is depends on the tag: a parameter, a symbol or a procedure.
-#[derive(Clone, Copy)]
+#[derive(Clone, Copy, Debug, PartialEq, Eq)]
 pub struct Node {
     pub tag: u16,
     pub name: u16,
@@ -43,7 +43,7 @@ pub struct Node {
 }
 
 // A rule of a transformation.
-#[derive(Clone, Copy)]
+#[derive(Clone, Copy, Debug, PartialEq, Eq)]
 pub struct Rule {
     pub procedure: Procedure,
     pub symbol: Symbol,
@@ -51,56 +51,99 @@ pub struct Rule {
 }
 
 // A row of a table that stands for trees.
-#[derive(Clone, Copy)]
+#[derive(Clone, Copy, Debug, PartialEq, Eq)]
 pub struct Row {
     pub symbol: Symbol,
     pub left: u16,
     pub right: u16,
 }
 
-// A number is none of so many symbols.
-pub fn symbol_wrong(symbols: usize, symbol: Symbol) -> bool
-    ensures { result ≡ leb symbols symbol.0 }
-{
-    symbols <= symbol.0 as usize
+// A contract as it is handed in: nothing of it is tested yet.
+#[derive(Clone, Copy)]
+pub struct ContractTables<'a> {
+    pub symbols: usize,
+    pub input_states: usize,
+    pub output_states: usize,
+    pub counts: &'a [u16],
+    pub input_rows: &'a [u16],
+    pub input_marks: &'a [u16],
+    pub output_table: &'a [u16],
+    pub output_marks: &'a [u16],
+    pub nodes: &'a [u16],
+    pub rules: &'a [u16],
 }
 
-// A number is none of so many input states.
-pub fn input_state_wrong(input_states: usize, state: InputState) -> bool
-    ensures { result ≡ leb input_states state.0 }
-{
-    input_states <= state.0 as usize
+// A number of one kind of thing, as the number that it is.
+pub trait Numbered: Copy {
+    ghost number: { Self → ℕ };
+
+    fn number(self) -> usize
+        ensures { result ≡ number self };
 }
 
-// A number is none of so many output states.
-pub fn output_state_wrong(output_states: usize, state: OutputState) -> bool
-    ensures { result ≡ leb output_states state.0 }
-{
-    output_states <= state.0 as usize
+impl Numbered for Symbol {
+    ghost number = { λ symbol. symbol.0 };
+
+    fn number(self) -> usize {
+        let Symbol(symbol) = self;
+        usize::from(symbol)
+    }
 }
 
-// A number is none of so many procedures.
-pub fn procedure_wrong(procedures: usize, procedure: Procedure) -> bool
-    ensures { result ≡ leb procedures procedure.0 }
+impl Numbered for InputState {
+    ghost number = { λ state. state.0 };
+
+    fn number(self) -> usize {
+        let InputState(state) = self;
+        usize::from(state)
+    }
+}
+
+impl Numbered for OutputState {
+    ghost number = { λ state. state.0 };
+
+    fn number(self) -> usize {
+        let OutputState(state) = self;
+        usize::from(state)
+    }
+}
+
+impl Numbered for Procedure {
+    ghost number = { λ procedure. procedure.0 };
+
+    fn number(self) -> usize {
+        let Procedure(procedure) = self;
+        usize::from(procedure)
+    }
+}
+
+// A number is none of so many of its kind.
+pub fn is_none_of<N: Numbered>(count: usize, number: N) -> bool
+    ensures { result ≡ leb count (N.number number) }
 {
-    procedures <= procedure.0 as usize
+    count <= number.number()
+}
+
+// A length is no whole number of tuples, or more than the most of them.
+pub fn tuples_wrong(width: usize, most: usize, length: usize) -> bool
+    requires { (1 ≤ width) × (width * most < 2 ^ 64) }
+    ensures { result ≡ tuples_wrong width most length }
+{
+    length % width != 0 || width * most < length
 }
 
 // The number at a place of a table, and 0 past its end.
 pub fn number_at(table: &[u16], k: usize) -> u16
     ensures { result ≡ get_or table.now k 0 }
 {
-    if k < table.len() {
-        return table[k];
-    }
-    0
+    table.get(k).copied().unwrap_or(0)
 }
 
 // How many parameters a procedure has, and 0 where there is no such procedure.
 pub fn count_of(counts: &[u16], procedure: Procedure) -> u16
     ensures { result ≡ count_of counts.now procedure.0 }
 {
-    number_at(counts, procedure.0 as usize)
+    number_at(counts, procedure.number())
 }
 
 // Row k of an input type.

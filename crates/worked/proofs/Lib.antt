@@ -1,2 +1,2 @@
--- Laws that the functions' proofs cite.
-pub mod Sevens
+-- Lines put one behind another.
+pub mod Texts

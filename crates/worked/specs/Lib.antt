@@ -1,2 +1,3 @@
--- What the program's text is.
+-- What the program asks, and what its text is.
+pub mod Asked
 pub mod Lines

@@ -4,70 +4,86 @@
 
 mod contracts;
 mod questions;
-mod texts;
 
-ghost use Rattle.std.specs.Prelude.{◌≡◌, length};
-ghost use Rattle.std.proofs.lemmas.List.Edits.{sets};
-ghost use Rattle.printing.specs.Appending.{place_after};
-ghost use Rattle.worked.specs.Lines.{checks_of_c1, runs_of_c2, judgings_of_c1, lines_of_c3, worked_lines};
+ghost use Rattle.tables.specs.Handed.{handed};
+ghost use Rattle.printing.specs.Appending.{Appended, Appends};
+ghost use Rattle.worked.specs.Asked.{question_of, HasRoom};
+ghost use Rattle.worked.specs.Lines.{line, checks_of_c1, runs_of_c2, judgings_of_c1, lines_of_c3, worked_lines};
 
-use crate::contracts::{check_c1, check_c3, judge_c1, run_c2, run_c3};
+use crate::contracts::{c1, c2, c3};
+use crate::questions::{Question, ask};
+use lines::appending::append_answer_line;
+use printing::pages::Page;
 use std::io;
+use tables::ContractTables;
+
+// The line of a case: its name, then the line of the answer.
+fn append_line(page: &mut Page, name: &[u8], contract: ContractTables, question: Question)
+    requires { HasRoom question }
+    ensures { Appends page.old page.new (line name.now (handed contract.entry) (question_of question.entry)) }
+{
+    page.append(name);
+    append_answer_line(page, ask(&contract, question));
+}
 
 // X1 to X5.
-fn checks_of_c1(out: &mut [u8], at: usize) -> usize
-    ensures value { result ≡ place_after out.old at (length checks_of_c1) }
-    ensures out_after { out.new ≡ sets out.old at checks_of_c1 }
+fn checks_of_c1(page: &mut Page)
+    ensures { Appends page.old page.new checks_of_c1 }
 {
-    let mut place = check_c1(out, at, b"X1", &[1, 1], 2);
-    place = check_c1(out, place, b"X2", &[1, 1], 1);
-    place = check_c1(out, place, b"X3", &[0, 1], 1);
-    place = check_c1(out, place, b"X4", &[1, 0], 512);
-    check_c1(out, place, b"X5", &[1, 0], 1)
+    append_line(page, b"X1", c1(&[1, 1]), Question::Check(2));
+    append_line(page, b"X2", c1(&[1, 1]), Question::Check(1));
+    append_line(page, b"X3", c1(&[0, 1]), Question::Check(1));
+    append_line(page, b"X4", c1(&[1, 0]), Question::Check(512));
+    append_line(page, b"X5", c1(&[1, 0]), Question::Check(1));
 }
 
 // X6 to X8.
-fn runs_of_c2(out: &mut [u8], at: usize) -> usize
-    ensures value { result ≡ place_after out.old at (length runs_of_c2) }
-    ensures out_after { out.new ≡ sets out.old at runs_of_c2 }
+fn runs_of_c2(page: &mut Page)
+    ensures { Appends page.old page.new runs_of_c2 }
 {
-    let mut place = run_c2(out, at, b"X6", 100, &[1, 0, 1, 0, 0]);
-    place = run_c2(out, place, b"X7", 100, &[0]);
-    run_c2(out, place, b"X8", 2, &[1, 0, 1, 0, 0])
+    append_line(page, b"X6", c2(), Question::Run(100, &[1, 0, 1, 0, 0]));
+    append_line(page, b"X7", c2(), Question::Run(100, &[0]));
+    append_line(page, b"X8", c2(), Question::Run(2, &[1, 0, 1, 0, 0]));
 }
 
 // X9 to X11.
-fn judgings_of_c1(out: &mut [u8], at: usize) -> usize
-    ensures value { result ≡ place_after out.old at (length judgings_of_c1) }
-    ensures out_after { out.new ≡ sets out.old at judgings_of_c1 }
+fn judgings_of_c1(page: &mut Page)
+    ensures { Appends page.old page.new judgings_of_c1 }
 {
-    let mut place = judge_c1(out, at, b"X9", &[1, 0]);
-    place = judge_c1(out, place, b"X10", &[1, 0, 0, 0]);
-    judge_c1(out, place, b"X11", &[])
+    append_line(page, b"X9", c1(&[1, 1]), Question::Judge(&[1, 0]));
+    append_line(page, b"X10", c1(&[1, 1]), Question::Judge(&[1, 0, 0, 0]));
+    append_line(page, b"X11", c1(&[1, 1]), Question::Judge(&[]));
 }
 
 // X12 and X13.
-fn lines_of_c3(out: &mut [u8], at: usize) -> usize
-    ensures value { result ≡ place_after out.old at (length lines_of_c3) }
-    ensures out_after { out.new ≡ sets out.old at lines_of_c3 }
+fn lines_of_c3(page: &mut Page)
+    ensures { Appends page.old page.new lines_of_c3 }
 {
-    let place = check_c3(out, at, b"X12", &[0, 0], 512);
-    run_c3(out, place, b"X13", 100, &[1, 0, 0])
+    append_line(page, b"X12", c3(&[0, 0]), Question::Check(512));
+    append_line(page, b"X13", c3(&[1, 1]), Question::Run(100, &[1, 0, 0]));
 }
 
 // All lines.
-fn worked(out: &mut [u8]) -> usize
-    ensures value { result ≡ place_after out.old 0 (length worked_lines) }
-    ensures out_after { out.new ≡ sets out.old 0 worked_lines }
+fn worked_lines(page: &mut Page)
+    ensures { Appends page.old page.new worked_lines }
 {
-    let mut place = checks_of_c1(out, 0);
-    place = runs_of_c2(out, place);
-    place = judgings_of_c1(out, place);
-    lines_of_c3(out, place)
+    checks_of_c1(page);
+    runs_of_c2(page);
+    judgings_of_c1(page);
+    lines_of_c3(page);
+}
+
+// The same, put at the front of a buffer: how many bytes they are.
+fn worked(out: &mut [u8]) -> usize
+    ensures { Appended out.old 0 worked_lines result out.new }
+{
+    let mut page = Page::new(out);
+    worked_lines(&mut page);
+    page.at
 }
 
 fn main(rt: HostRuntime) -> io::Result<()> {
-    let mut out = [0u8; 256];
+    let mut out = [0; 256];
     let end = worked(&mut out);
     rt.write_all(&out[..end])
 }

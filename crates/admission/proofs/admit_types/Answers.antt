@@ -1,39 +1,36 @@
--- `admit_types`: a search that ends before its last place refuses, one that does not is fine; each answer is that of the first
--- part that refuses.
+-- `admit_types`: each answer is that of the first part that refuses. What the shape bounds is lent to the searches.
 use Rattle.model.specs.Admission.{input_rows, entries, counts}
-use Rattle.model.proofs.Laws.Answers.{refuse_first_at, refuse_first_none}
-use Rattle.admission.specs.Stages.{types}
+use Rattle.tables.specs.Handed.{handed}
 use Rattle.answers.proofs.Answered.{answer_refused, answer_passed, answer_last, answer_fine}
+use Rattle.admission_tables.proofs.Found.{found_refused, none_fine}
+use Rattle.admission.proofs.Order.{few_entries, few_procedures}
 use Rattle.admission.proofs.admit_types.Goals as goal
 
-pub returns-then-row-input_rows : goal.returns-then-row-input_rows
-unfolding types input_rows
-returns-then-row-input_rows c = answer_refused _ _ 3 _ (refuse_first_at 3 _ _ _ c.first_bad_input_row-row.ensures c.if-row-input_rows.true)
+pub returns-in-Some : goal.returns-in-Some
+unfolding input_rows
+returns-in-Some c = answer_refused _ _ 3 _ (found_refused _ _ 3 _ c.in-Some.ensures)
 
-pub returns-then-entry-input_marks : goal.returns-then-entry-input_marks
-unfolding types input_rows entries
-returns-then-entry-input_marks c =
-    answer_passed _ _ _
-    (refuse_first_none 3 _ _ _ c.first_bad_input_row-row.ensures c.if-row-input_rows.false)
-    (answer_refused _ _ 4 _
-    (refuse_first_at 4 _ _ _ c.first_bad_entry-entry.ensures c.if-entry-input_marks.true))
+pub first_bad_entry-requires : goal.first_bad_entry-requires
+first_bad_entry-requires c = few_entries (handed c.args.contract.now) c.requires
 
-pub returns-then-place-counts : goal.returns-then-place-counts
-unfolding types input_rows entries counts
-returns-then-place-counts c =
-    answer_passed _ _ _
-    (refuse_first_none 3 _ _ _ c.first_bad_input_row-row.ensures c.if-row-input_rows.false)
-    (answer_passed _ _ _
-    (refuse_first_none 4 _ _ _ c.first_bad_entry-entry.ensures c.if-entry-input_marks.false)
-    (answer_last _ 5 _
-    (refuse_first_at 5 _ _ _ c.first_bad_count-place.ensures c.if-place-counts.true)))
+pub returns-in-Some-first_bad_entry : goal.returns-in-Some-first_bad_entry
+unfolding input_rows entries
+returns-in-Some-first_bad_entry c =
+    answer_passed _ _ _ (none_fine _ _ 3 c.in_default.ensures) (answer_refused _ _ 4 _ (found_refused _ _ 4 _ c.in-Some-first_bad_entry.ensures))
+
+pub first_bad_count-requires : goal.first_bad_count-requires
+first_bad_count-requires c = few_procedures (handed c.args.contract.now) c.requires
+
+pub returns-in-Some-first_bad_count : goal.returns-in-Some-first_bad_count
+unfolding input_rows entries counts
+returns-in-Some-first_bad_count c =
+    answer_passed _ _ _ (none_fine _ _ 3 c.in_default.ensures)
+    (answer_passed _ _ _ (none_fine _ _ 4 c.in_default-first_bad_entry.ensures)
+    (answer_last _ 5 _ (found_refused _ _ 5 _ c.in-Some-first_bad_count.ensures)))
 
 pub returns : goal.returns
-unfolding types input_rows entries counts
+unfolding input_rows entries counts
 returns c =
-    answer_passed _ _ _
-    (refuse_first_none 3 _ _ _ c.first_bad_input_row-row.ensures c.if-row-input_rows.false)
-    (answer_passed _ _ _
-    (refuse_first_none 4 _ _ _ c.first_bad_entry-entry.ensures c.if-entry-input_marks.false)
-    (answer_fine _
-    (refuse_first_none 5 _ _ _ c.first_bad_count-place.ensures c.if-place-counts.false)))
+    answer_passed _ _ _ (none_fine _ _ 3 c.in_default.ensures)
+    (answer_passed _ _ _ (none_fine _ _ 4 c.in_default-first_bad_entry.ensures)
+    (answer_fine _ (none_fine _ _ 5 c.in_default-first_bad_count.ensures)))

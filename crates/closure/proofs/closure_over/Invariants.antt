@@ -1,12 +1,7 @@
--- Invariant: nothing is missing over the left kinds before place i. Measure: the left kinds left.
-use Prim.Native.Nat.{◌-◌, ◌≤◌}
-use lib.ListN.{length}
-use Rattle.prepared.specs.Parts.{contract_in}
+-- Invariant: nothing is missing over the left kinds before this one.
+use Rattle.closure.specs.Sent.{contract_for}
 use Rattle.closure.proofs.Openings.{HeldTo}
 use Rattle.closure.proofs.closure_over.Given as goal
 
-abbrev pub invariant-loop-i : goal.invariant-loop-i
-invariant-loop-i l = HeldTo (contract_in l.prepared l.table) l.words l.symbol.0 l.lefts l.rights l.i × (l.i ≤ length l.lefts)
-
-abbrev pub decreases-loop-i : goal.decreases-loop-i
-decreases-loop-i l = length l.lefts - l.i
+abbrev pub invariant-loop-left : goal.invariant-loop-left
+invariant-loop-left l = HeldTo (contract_for l.sent) l.sent.words.now l.symbol.0 l.lefts l.rights l.left-index

@@ -1,28 +1,28 @@
 -- Each refusal is the definition's; where nothing is refused the contract is established, so that it can be prepared, and the list is examined
 -- by it.
-use mathlib.Core.Path.{ap, sym, ◌∙◌}
-use native.Mathlib.Omega.{arith}
-use Rattle.answers.specs.Numbers.{admission_answer}
+use Rattle.std.proofs.Common.{refl, sym, ◌∙◌, arith}
+use Rattle.std.proofs.lemmas.Result.{err_from_is_err_and}
 use Rattle.admission.proofs.Answered.{admitted_fine, admitted_established}
-use Rattle.layouts.specs.Counts.{small-counts}
 use Rattle.preparing.specs.Packing.{room_enough}
-use Rattle.examining.proofs.Steps.{refused_contract, refused_length, examined_list, made_ready}
+use Rattle.examining.proofs.Steps.{refused_contract, refused_length, examined_list}
 use Rattle.examining.proofs.examine.Goals as goal
 
-pub returns-in-Refused : goal.returns-in-Refused
-returns-in-Refused c = (refused_contract _ _ c.in-Refused.fault (sym (ap admission_answer c.in-Refused.is) ∙ c.admit-admission.ensures), tt)
+pub returns-in_err-admit : goal.returns-in_err-admit
+returns-in_err-admit c =
+    let e = err_from_is_err_and c.from_residual.result c.from_residual.ensures.1 in
+    rw (e.1, e.2) (refused_contract _ _ c.in_err-admit.field-0.0 c.in_err-admit.ensures, tt)
 
-pub returns-then-length_wrong : goal.returns-then-length_wrong
-returns-then-length_wrong c = (refused_length _ _ (admitted_fine _ _ c.in_default.is c.admit-admission.ensures) (sym c.length_wrong.ensures ∙ c.if-length_wrong.true), tt)
+pub returns-then-tuples_wrong : goal.returns-then-tuples_wrong
+returns-then-tuples_wrong c =
+    (refused_length _ _ (admitted_fine _ _ refl c.in_ok-admit.ensures) (sym c.tuples_wrong.ensures ∙ c.if-tuples_wrong.true), tt)
 
-pub prepare-prepared-requires : goal.prepare-prepared-requires
-prepare-prepared-requires c = let known = admitted_established _ _ c.in_default.is c.admit-admission.ensures in (known, omega (arith, room_enough _ known), omega arith)
-
-pub fact_total-facts-requires : goal.fact_total-facts-requires
-fact_total-facts-requires c = small-counts _ (admitted_established _ _ c.in_default.is c.admit-admission.ensures)
-
-pub examine_prepared-requires : goal.examine_prepared-requires
-examine_prepared-requires c = made_ready _ c.args.words.now c.prepare-prepared.ensures c.fact_total-facts.ensures (sym c.length_wrong.ensures ∙ c.if-length_wrong.false)
+pub prepare-requires : goal.prepare-requires
+prepare-requires c =
+    let known = admitted_established _ _ refl c.in_ok-admit.ensures in
+    (known, omega (arith, room_enough _ known), omega arith)
 
 pub returns : goal.returns
-returns c = (examined_list _ _ (admitted_fine _ _ c.in_default.is c.admit-admission.ensures) (sym c.length_wrong.ensures ∙ c.if-length_wrong.false) _ c.prepare-prepared.ensures.contract c.examine_prepared.ensures.0, c.examine_prepared.ensures.1)
+returns c =
+    let same = c.with_masks-masked.ensures ∙ c.prepare.ensures in
+    let fine = admitted_fine _ _ refl c.in_ok-admit.ensures in
+    (examined_list _ _ fine (sym c.tuples_wrong.ensures ∙ c.if-tuples_wrong.false) _ same c.examine_prepared.ensures.0, c.examine_prepared.ensures.1)

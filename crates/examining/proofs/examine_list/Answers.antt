@@ -1,23 +1,37 @@
 -- The empty kind is sought, then the list is seen to be closed, then a breaking kind is sought: the first that fails is the answer.
-use mathlib.Core.Bool.{not}
-use mathlib.Core.Path.{ap, subst, sym, ◌∙◌}
-use native.Mathlib.Omega.{arith}
-use Rattle.closure.specs.Held.{ToldInside, closure_verdict}
-use Rattle.examining.proofs.Steps.{search_empty, told_missing, told_held, refused_empty, refused_open, refused_breaking, accepted_list}
+use Rattle.std.proofs.Common.{sym, ◌∙◌}
+use Rattle.std.proofs.lemmas.Result.{err_from_is_err_and}
+use Rattle.admission_tables.proofs.Found.{found_inside}
+use Rattle.examining.proofs.Steps.{search_empty, refused_empty, refused_open, refused_breaking, accepted_list}
 use Rattle.examining.proofs.examine_list.Goals as goal
 
 pub returns-then-not-is_shown : goal.returns-then-not-is_shown
-returns-then-not-is_shown c = (refused_empty _ _ (told_missing _ _ (search_empty _ c.requires.0.prepared.established _ _ _ c.empty_of-empty.result c.requires.1 c.empty_of-empty.ensures c.is_shown.ensures) (ap not c.if-not-is_shown.true)), tt)
+returns-then-not-is_shown c =
+    let sent = c.args.sent.now in
+    let known = sent.masked.now.prepared.ready.established in
+    let told = search_empty _ known _ _ _ c.empty_of-empty.result sent.searchable c.empty_of-empty.ensures c.is_shown.ensures in
+    (refused_empty _ _ (sym told ∙ c.if-not-is_shown.true), tt)
 
-pub returns-in-Open : goal.returns-in-Open
-returns-in-Open c = (refused_open _ _ _ _ (told_held _ _ (search_empty _ c.requires.0.prepared.established _ _ _ c.empty_of-empty.result c.requires.1 c.empty_of-empty.ensures c.is_shown.ensures) (ap not c.if-not-is_shown.false)) (sym (ap closure_verdict c.in-Open.is) ∙ c.closure_of-closure.ensures.0), subst (ToldInside _) c.in-Open.is c.closure_of-closure.ensures.1)
+pub returns-in_err-closure_of : goal.returns-in_err-closure_of
+returns-in_err-closure_of c =
+    let sent = c.args.sent.now in
+    let known = sent.masked.now.prepared.ready.established in
+    let told = search_empty _ known _ _ _ c.empty_of-empty.result sent.searchable c.empty_of-empty.ensures c.is_shown.ensures in
+    let e = err_from_is_err_and c.from_residual.result c.from_residual.ensures.1 in
+    rw (e.1, e.2) (refused_open _ _ _ _ (sym told ∙ c.if-not-is_shown.false) c.in_err-closure_of.ensures.0, c.in_err-closure_of.ensures.1)
 
-pub returns-then-kind-words : goal.returns-then-kind-words
-returns-then-kind-words c =
-    let closed = sym (ap closure_verdict c.in_default.is) ∙ c.closure_of-closure.ensures.0 in
-    (refused_breaking _ _ c.requires.0.prepared.established _ c.requires.0.verdicts _ c.first_breaking-kind.ensures (told_held _ _ (search_empty _ c.requires.0.prepared.established _ _ _ c.empty_of-empty.result c.requires.1 c.empty_of-empty.ensures c.is_shown.ensures) (ap not c.if-not-is_shown.false)) closed _ c.entry_of.ensures (omega (arith, c.if-kind-words.true)), omega (arith, c.entry_of.ensures, c.if-kind-words.true))
+pub returns-in-Some : goal.returns-in-Some
+returns-in-Some c =
+    let sent = c.args.sent.now in
+    let ready = sent.masked.now.prepared.ready in
+    let told = search_empty _ ready.established _ _ _ c.empty_of-empty.result sent.searchable c.empty_of-empty.ensures c.is_shown.ensures in (
+      refused_breaking _ _ ready.established _ ready.verdicts (sym told ∙ c.if-not-is_shown.false) c.in_ok-closure_of.ensures.0 c.in-Some.kind c.in-Some.ensures,
+      found_inside _ _ c.in-Some.kind c.in-Some.ensures,
+    )
 
-pub returns : goal.returns
-returns c =
-    let closed = sym (ap closure_verdict c.in_default.is) ∙ c.closure_of-closure.ensures.0 in
-    (accepted_list _ _ c.requires.0.prepared.established _ c.requires.0.verdicts _ c.first_breaking-kind.ensures (told_held _ _ (search_empty _ c.requires.0.prepared.established _ _ _ c.empty_of-empty.result c.requires.1 c.empty_of-empty.ensures c.is_shown.ensures) (ap not c.if-not-is_shown.false)) closed (omega (arith, c.if-kind-words.false)), tt)
+pub returns-in-None : goal.returns-in-None
+returns-in-None c =
+    let sent = c.args.sent.now in
+    let ready = sent.masked.now.prepared.ready in
+    let told = search_empty _ ready.established _ _ _ c.empty_of-empty.result sent.searchable c.empty_of-empty.ensures c.is_shown.ensures in
+    (accepted_list _ _ ready.established _ ready.verdicts (sym told ∙ c.if-not-is_shown.false) c.in_ok-closure_of.ensures.0 c.in-None.ensures, tt)

@@ -1,72 +1,62 @@
 -- Each refusal is the definition's; where nothing is refused the contract is established and the first numbers are a document, so
 -- that the contract can be prepared and the document judged by it.
-use mathlib.Core.Path.{ap, sym, ◌∙◌}
-use native.Mathlib.Omega.{arith}
-use Rattle.model.specs.Tables.{Contract, contract}
-use Rattle.answers.specs.Numbers.{admission_answer}
-use Rattle.admission.proofs.Answered.{admitted_fine, admitted_established}
-use Rattle.reading.specs.Answers.{reading_verdict}
-use Rattle.reading.specs.Taken.{taken_fine, all_taken}
+use Rattle.std.proofs.Common.{refl, sym, arith}
+use Rattle.std.proofs.lemmas.Result.{err_from_is_err_and}
+use Rattle.tables.specs.Handed.{handed}
+use Rattle.admission.proofs.Answered.{admitted_fine}
+use Rattle.reading.specs.Taken.{all_taken}
 use Rattle.preparing.specs.Packing.{short, room_enough}
-use Rattle.judging.specs.Steps.{LetIn, document_in, refused_contract, refused_buffer, refused_document, judged_document}
+use Rattle.judging.specs.Steps.{LetIn, let-in, refused_contract, refused_buffer, refused_document, judged_document}
 use Rattle.judging.proofs.judge.Goals as goal
+use Rattle.judging.proofs.judge.Goals.{In_ok-taken}
 
-pub returns-in-Refused : goal.returns-in-Refused
-returns-in-Refused c = refused_contract _ _ _ c.in-Refused.fault (sym (ap admission_answer c.in-Refused.is) ∙ c.admit-admission.ensures)
+past : (c : In_ok-taken) → LetIn (handed c.args.contract.now) c.in_ok-taken.taken c.args.numbers.now c.args.kind.now
+past c =
+    let-in c.in_ok-admit.ensures (omega (arith, c.if-wrong_length.false)) c.in_ok-taken.ensures.result_value c.in_ok-taken.ensures.result_value_2
 
-pub returns-then-kind-ne5 : goal.returns-then-kind-ne5
-returns-then-kind-ne5 c = refused_buffer _ _ _ (admitted_fine _ _ c.in_default.is c.admit-admission.ensures) (λ e. omega arith)
+pub returns-in_err-admit : goal.returns-in_err-admit
+returns-in_err-admit c =
+    let e = err_from_is_err_and c.from_residual.result c.from_residual.ensures.1 in
+    rw (e.1, e.2) (refused_contract _ _ _ c.in_err-admit.field-0.0 c.in_err-admit.ensures)
 
-pub returns-in-Refused-reading : goal.returns-in-Refused-reading
-returns-in-Refused-reading c = refused_document _ _ _ (admitted_fine _ _ c.in_default.is c.admit-admission.ensures) (omega arith) c.in-Refused-reading.fault (sym (ap reading_verdict c.in-Refused-reading.is) ∙ c.read-reading.ensures.result_value)
+pub returns-then-wrong_length : goal.returns-then-wrong_length
+returns-then-wrong_length c = refused_buffer _ _ _ (admitted_fine _ _ refl c.in_ok-admit.ensures) (λ e. omega arith)
 
-pub table_length-length-requires : goal.table_length-length-requires
-table_length-length-requires c =
-    let handed : Contract = let a = c.args in contract a.symbols a.input_states a.output_states a.counts.now a.input_rows.now a.input_marks.now a.output_table.now a.output_marks.now a.nodes.now a.rules.now in
-    let let-in : LetIn handed c.taken_of-taken.result c.args.numbers.now c.args.kind.now = record { passed = admitted_fine _ _ c.in_default.is c.admit-admission.ensures; known = admitted_established _ _ c.in_default.is c.admit-admission.ensures; five = omega (arith, c.if-kind-ne5.false); read = taken_fine _ _ _ (sym c.read-reading.ensures.result_value ∙ ap reading_verdict c.in_default-reading.is) (c.taken_of-taken.ensures ∙ c.read-reading.ensures.result_value_2) } in short _ let-in.known
+pub returns-in_err-taken : goal.returns-in_err-taken
+returns-in_err-taken c =
+    let e = err_from_is_err_and c.from_residual-in_err-taken.result c.from_residual-in_err-taken.ensures.1 in
+    rw (e.1, e.2)
+    (refused_document _ _ _ (admitted_fine _ _ refl c.in_ok-admit.ensures) (omega (arith, c.if-wrong_length.false)) c.in_err-taken.field-0.0 c.in_err-taken.ensures.result_value)
 
-pub prepare-prepared-requires : goal.prepare-prepared-requires
-prepare-prepared-requires c =
-    let handed : Contract = let a = c.args in contract a.symbols a.input_states a.output_states a.counts.now a.input_rows.now a.input_marks.now a.output_table.now a.output_marks.now a.nodes.now a.rules.now in
-    let let-in : LetIn handed c.taken_of-taken.result c.args.numbers.now c.args.kind.now = record { passed = admitted_fine _ _ c.in_default.is c.admit-admission.ensures; known = admitted_established _ _ c.in_default.is c.admit-admission.ensures; five = omega (arith, c.if-kind-ne5.false); read = taken_fine _ _ _ (sym c.read-reading.ensures.result_value ∙ ap reading_verdict c.in_default-reading.is) (c.taken_of-taken.ensures ∙ c.read-reading.ensures.result_value_2) } in (let-in.known, omega (arith, c.table_length-length.ensures), omega arith)
+pub slice_bounds-document-end : goal.slice_bounds-document-end
+slice_bounds-document-end c = sym (all_taken (past (goal.at.slice_bounds-document-end c).In_ok-taken).read)
 
-pub slice_bounds-judge_prepared-end-then-length-le512 : goal.slice_bounds-judge_prepared-end-then-length-le512
-slice_bounds-judge_prepared-end-then-length-le512 c =
-    let handed : Contract = let a = c.args in contract a.symbols a.input_states a.output_states a.counts.now a.input_rows.now a.input_marks.now a.output_table.now a.output_marks.now a.nodes.now a.rules.now in
-    let let-in : LetIn handed c.taken_of-taken.result c.args.numbers.now c.args.kind.now = record { passed = admitted_fine _ _ c.in_default.is c.admit-admission.ensures; known = admitted_established _ _ c.in_default.is c.admit-admission.ensures; five = omega (arith, c.if-kind-ne5.false); read = taken_fine _ _ _ (sym c.read-reading.ensures.result_value ∙ ap reading_verdict c.in_default-reading.is) (c.taken_of-taken.ensures ∙ c.read-reading.ensures.result_value_2) } in sym (all_taken let-in.read)
+pub table_length-requires : goal.table_length-requires
+table_length-requires c = short _ (past (goal.at.table_length-requires c).In_ok-taken).known
 
-pub judge_prepared-requires : goal.judge_prepared-requires
-judge_prepared-requires c =
-    let handed : Contract = let a = c.args in contract a.symbols a.input_states a.output_states a.counts.now a.input_rows.now a.input_marks.now a.output_table.now a.output_marks.now a.nodes.now a.rules.now in
-    let let-in : LetIn handed c.taken_of-taken.result c.args.numbers.now c.args.kind.now = record { passed = admitted_fine _ _ c.in_default.is c.admit-admission.ensures; known = admitted_established _ _ c.in_default.is c.admit-admission.ensures; five = omega (arith, c.if-kind-ne5.false); read = taken_fine _ _ _ (sym c.read-reading.ensures.result_value ∙ ap reading_verdict c.in_default-reading.is) (c.taken_of-taken.ensures ∙ c.read-reading.ensures.result_value_2) } in
-    let made = c.prepare-prepared.ensures in
-    let past = let-in in
-    (made.ready, document_in past.read _ made.contract, past.five)
+pub judge_in-requires-clause-room : goal.judge_in-requires-clause-room
+judge_in-requires-clause-room c =
+    let known = (past (goal.at.judge_in-requires-clause-room c).In_ok-taken).known in
+    (known, omega (arith, c.table_length.ensures, c.if-table_length-le512.true), omega arith)
 
-pub returns-then-length-le512 : goal.returns-then-length-le512
-returns-then-length-le512 c =
-    let handed : Contract = let a = c.args in contract a.symbols a.input_states a.output_states a.counts.now a.input_rows.now a.input_marks.now a.output_table.now a.output_marks.now a.nodes.now a.rules.now in
-    let let-in : LetIn handed c.taken_of-taken.result c.args.numbers.now c.args.kind.now = record { passed = admitted_fine _ _ c.in_default.is c.admit-admission.ensures; known = admitted_established _ _ c.in_default.is c.admit-admission.ensures; five = omega (arith, c.if-kind-ne5.false); read = taken_fine _ _ _ (sym c.read-reading.ensures.result_value ∙ ap reading_verdict c.in_default-reading.is) (c.taken_of-taken.ensures ∙ c.read-reading.ensures.result_value_2) } in judged_document _ _ _ let-in _ c.prepare-prepared.ensures.contract c.judge_prepared.ensures
+pub judge_in-requires-clause-document : goal.judge_in-requires-clause-document
+judge_in-requires-clause-document c =
+    let past = past (goal.at.judge_in-requires-clause-document c).In_ok-taken in
+    (past.read.leads.document, past.five)
 
-pub prepare-prepared-requires-2 : goal.prepare-prepared-requires-2
-prepare-prepared-requires-2 c =
-    let handed : Contract = let a = c.args in contract a.symbols a.input_states a.output_states a.counts.now a.input_rows.now a.input_marks.now a.output_table.now a.output_marks.now a.nodes.now a.rules.now in
-    let let-in : LetIn handed c.taken_of-taken.result c.args.numbers.now c.args.kind.now = record { passed = admitted_fine _ _ c.in_default.is c.admit-admission.ensures; known = admitted_established _ _ c.in_default.is c.admit-admission.ensures; five = omega (arith, c.if-kind-ne5.false); read = taken_fine _ _ _ (sym c.read-reading.ensures.result_value ∙ ap reading_verdict c.in_default-reading.is) (c.taken_of-taken.ensures ∙ c.read-reading.ensures.result_value_2) } in let known = let-in.known in (known, omega (arith, room_enough _ known), omega arith)
+pub returns-then-table_length-le512 : goal.returns-then-table_length-le512
+returns-then-table_length-le512 c =
+    judged_document _ _ _ (past (goal.at.returns-then-table_length-le512 c).In_ok-taken) c.judge_in.ensures
 
-pub slice_bounds-judge_prepared-end-3 : goal.slice_bounds-judge_prepared-end-3
-slice_bounds-judge_prepared-end-3 c =
-    let handed : Contract = let a = c.args in contract a.symbols a.input_states a.output_states a.counts.now a.input_rows.now a.input_marks.now a.output_table.now a.output_marks.now a.nodes.now a.rules.now in
-    let let-in : LetIn handed c.taken_of-taken.result c.args.numbers.now c.args.kind.now = record { passed = admitted_fine _ _ c.in_default.is c.admit-admission.ensures; known = admitted_established _ _ c.in_default.is c.admit-admission.ensures; five = omega (arith, c.if-kind-ne5.false); read = taken_fine _ _ _ (sym c.read-reading.ensures.result_value ∙ ap reading_verdict c.in_default-reading.is) (c.taken_of-taken.ensures ∙ c.read-reading.ensures.result_value_2) } in sym (all_taken let-in.read)
+pub judge_in-requires-2-clause-room : goal.judge_in-requires-2-clause-room
+judge_in-requires-2-clause-room c =
+    let known = (past (goal.at.judge_in-requires-2-clause-room c).In_ok-taken).known in
+    (known, omega (arith, room_enough _ known), omega arith)
 
-pub judge_prepared-requires-2 : goal.judge_prepared-requires-2
-judge_prepared-requires-2 c =
-    let handed : Contract = let a = c.args in contract a.symbols a.input_states a.output_states a.counts.now a.input_rows.now a.input_marks.now a.output_table.now a.output_marks.now a.nodes.now a.rules.now in
-    let let-in : LetIn handed c.taken_of-taken.result c.args.numbers.now c.args.kind.now = record { passed = admitted_fine _ _ c.in_default.is c.admit-admission.ensures; known = admitted_established _ _ c.in_default.is c.admit-admission.ensures; five = omega (arith, c.if-kind-ne5.false); read = taken_fine _ _ _ (sym c.read-reading.ensures.result_value ∙ ap reading_verdict c.in_default-reading.is) (c.taken_of-taken.ensures ∙ c.read-reading.ensures.result_value_2) } in
-    let made = c.prepare-prepared-2.ensures in
-    let past = let-in in
-    (made.ready, document_in past.read _ made.contract, past.five)
+pub judge_in-requires-2-clause-document : goal.judge_in-requires-2-clause-document
+judge_in-requires-2-clause-document c =
+    let past = past (goal.at.judge_in-requires-2-clause-document c).In_ok-taken in
+    (past.read.leads.document, past.five)
 
 pub returns : goal.returns
-returns c =
-    let handed : Contract = let a = c.args in contract a.symbols a.input_states a.output_states a.counts.now a.input_rows.now a.input_marks.now a.output_table.now a.output_marks.now a.nodes.now a.rules.now in
-    let let-in : LetIn handed c.taken_of-taken.result c.args.numbers.now c.args.kind.now = record { passed = admitted_fine _ _ c.in_default.is c.admit-admission.ensures; known = admitted_established _ _ c.in_default.is c.admit-admission.ensures; five = omega (arith, c.if-kind-ne5.false); read = taken_fine _ _ _ (sym c.read-reading.ensures.result_value ∙ ap reading_verdict c.in_default-reading.is) (c.taken_of-taken.ensures ∙ c.read-reading.ensures.result_value_2) } in judged_document _ _ _ let-in _ c.prepare-prepared-2.ensures.contract c.judge_prepared-2.ensures
+returns c = judged_document _ _ _ (past (goal.at.returns c).In_ok-taken) c.judge_in-2.ensures

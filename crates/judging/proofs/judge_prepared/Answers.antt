@@ -4,4 +4,5 @@ use Rattle.judging.proofs.judge_prepared.Goals as goal
 
 pub returns : goal.returns
 returns c =
-    comes_judged _ _ _ _ _ _ _ c.requires.0.prepared.established c.requires.0.verdicts c.document_kind-words.ensures c.write_kind.ensures c.judgement_of-judgement.ensures
+    let ready = c.args.prepared.now.ready in
+    comes_judged _ _ _ _ _ _ _ ready.established ready.verdicts c.document_kind-words.ensures c.write_kind.ensures c.judgement_of.ensures

@@ -1,36 +1,29 @@
 -- At most four states and two parameters: lanes of at most sixteen bits. What is called gives the words of the layout.
-use mathlib.Core.Path.{◌≡◌, refl, ◌∙◌}
-use Prim.Native.Nat.{◌^◌}
-use native.Mathlib.Omega.{arith}
-use native.Mathlib.Nat.{one-le-pow}
-use Rattle.lanes.proofs.Room.{power_small}
-use Rattle.kind_words.specs.Kind.{lanes_fit}
-use Rattle.layouts.specs.LaneWords.{lanes_are, weight_some}
+use Rattle.std.proofs.Common.{refl, ◌∙◌, arith}
+use Rattle.layouts.specs.LaneWords.{lanes_are, weight_some, sized_for, layout_fits}
 use Rattle.layouts.proofs.layout_of.Goals as goal
 
-pub lane_of_ones-ones-requires : goal.lane_of_ones-ones-requires
-lane_of_ones-ones-requires c =
-    let args = c.args in
-    let e : c.assignments-width.result ≡ args.states ^ c.greatest_count-greatest.result = c.assignments-width.ensures in
-    omega (arith, power_small args.states c.greatest_count-greatest.result c.requires.0 c.requires.1.states≤ c.greatest_count-greatest.ensures.most)
-
 pub starts_word-starts-requires : goal.starts_word-starts-requires
-starts_word-starts-requires c =
-    let args = c.args in
-    let e : c.assignments-width.result ≡ args.states ^ c.greatest_count-greatest.result = c.assignments-width.ensures in
-    record { some = rw e (one-le-pow c.greatest_count-greatest.result args.states c.requires.0); fit = rw e (lanes_fit args.states c.greatest_count-greatest.result c.requires.0 c.requires.1.states≤ c.greatest_count-greatest.ensures.most) }
+starts_word-starts-requires c = sized_for _ _ _ c.requires.0 c.requires.1.states≤ c.greatest_count-greatest.ensures.most c.assignments-width.ensures
 
 pub parameter_word-first-requires : goal.parameter_word-first-requires
-parameter_word-first-requires c =
-    let args = c.args in
-    let e : c.assignments-width.result ≡ args.states ^ c.greatest_count-greatest.result = c.assignments-width.ensures in
-    (record { some = rw e (one-le-pow c.greatest_count-greatest.result args.states c.requires.0); fit = rw e (lanes_fit args.states c.greatest_count-greatest.result c.requires.0 c.requires.1.states≤ c.greatest_count-greatest.ensures.most) }, c.requires.0, rw c.first_weight.ensures (weight_some args.states c.greatest_count-greatest.result c.requires.0))
+parameter_word-first-requires c = (
+  sized_for _ _ _ c.requires.0 c.requires.1.states≤ c.greatest_count-greatest.ensures.most c.assignments-width.ensures,
+  c.requires.0,
+  rw c.first_weight.ensures (weight_some _ _ c.requires.0),
+)
 
 pub parameter_word-second-requires : goal.parameter_word-second-requires
-parameter_word-second-requires c =
-    let args = c.args in
-    let e : c.assignments-width.result ≡ args.states ^ c.greatest_count-greatest.result = c.assignments-width.ensures in
-    (record { some = rw e (one-le-pow c.greatest_count-greatest.result args.states c.requires.0); fit = rw e (lanes_fit args.states c.greatest_count-greatest.result c.requires.0 c.requires.1.states≤ c.greatest_count-greatest.ensures.most) }, c.requires.0, omega arith)
+parameter_word-second-requires c = (
+  sized_for _ _ _ c.requires.0 c.requires.1.states≤ c.greatest_count-greatest.ensures.most c.assignments-width.ensures,
+  c.requires.0,
+  omega arith,
+)
+
+pub invariant_of-result : goal.invariant_of-result
+invariant_of-result c = record {
+  fits = layout_fits _ _ _ _ _ _ _ c.requires.0 c.requires.1.states≤ c.greatest_count-greatest.ensures.most c.assignments-width.ensures c.lane_of_ones-ones.ensures c.starts_word-starts.ensures;
+}
 
 pub returns : goal.returns
 returns c = record {

@@ -1,13 +1,8 @@
--- Invariant: the first p offsets stand in the table. Measure: the procedures left.
-use mathlib.Core.Path.{◌≡◌}
-use Prim.Native.Nat.{ℕ, ◌-◌, ◌≤◌, ◌<◌}
-use lib.ListN.{length, get_or}
+-- The first p offsets stand in the table.
+use Rattle.std.proofs.Common.{◌≡◌, ℕ, ◌<◌, length, get_or}
 use Rattle.model.specs.Facts.{offset}
 use Rattle.kind_words.specs.Sizes.{most_procedures}
 use Rattle.layouts.proofs.offsets_of.Given as goal
 
 abbrev pub invariant-loop-p : goal.invariant-loop-p
-invariant-loop-p l = (l.p ≤ length l.counts) × (length l.offsets ≡ most_procedures) × ((i : ℕ) → i < l.p → get_or l.offsets i 0 ≡ offset l.states l.counts i)
-
-abbrev pub decreases-loop-p : goal.decreases-loop-p
-decreases-loop-p l = length l.counts - l.p
+invariant-loop-p l = (length l.offsets ≡ most_procedures) × ((i : ℕ) → i < l.p → get_or l.offsets i 0 ≡ offset l.states l.counts i)

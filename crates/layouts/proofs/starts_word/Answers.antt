@@ -1,13 +1,9 @@
--- Invariant: the word has the first bit of each of the first q lanes. Measure: the lanes left.
-use mathlib.Core.Path.{◌∙◌}
-use native.Mathlib.Omega.{arith}
+-- One lane more.
 use Rattle.foundation.specs.Bits.{or_none, or_more}
 use Rattle.layouts.proofs.starts_word.Goals as goal
 
 pub loop-q-init : goal.loop-q-init
-loop-q-init c = (omega arith, omega arith, or_none _)
+loop-q-init c = or_none _
 
 pub loop-q-preserved : goal.loop-q-preserved
-loop-q-preserved c =
-    let loop = c.loop-q in
-    (omega arith, omega arith, or_more _ loop.q _ _ loop.invariant.2 (c.up-word.ensures ∙ rw loop.invariant.1))
+loop-q-preserved c = or_more _ _ _ _ c.loop-q.invariant c.up-word.ensures

@@ -1,17 +1,15 @@
--- Invariant: the masks of the symbols below s show what those can see, and there are as many words as at entry. Measure: the
--- symbols left.
-use mathlib.Core.Path.{sym, subst, ◌∙◌}
-use mathlib.Core.List.{List}
-use Prim.Native.Nat.{ℕ, ◌+◌}
-use native.Mathlib.Omega.{arith}
-use Rattle.prepared.specs.Parts.{contract_in}
-use Rattle.masks.specs.Seen.{AllSee, stored, see_more}
+-- Invariant: the masks of the symbols below s show what those can see.
+use Rattle.std.proofs.Common.{arith}
+use Rattle.prepared.specs.Contract.{contract_of}
+use Rattle.masks.specs.Seen.{see_more}
 use Rattle.masks.proofs.side_masks.Goals as goal
 
-pub loop-prepared-preserved : goal.loop-prepared-preserved
-loop-prepared-preserved c =
-    let few = c.requires.0.prepared.established.symbols.≤most in
-    let C = contract_in c.args.prepared c.args.table.now in
-    let more : AllSee C c.args.on_right (c.loop-prepared.s + 1) (stored c.loop-prepared.masks c.loop-prepared.s c.mask_of-mask.result) =
-    see_more C c.args.on_right c.loop-prepared.s c.loop-prepared.masks _ (omega (arith, few, c.loop-prepared.invariant, c.requires.1)) c.loop-prepared.invariant.3 c.mask_of-mask.ensures in
-    (omega arith, omega arith, c.loop-prepared.invariant.2, subst (λ (m : List ℕ). AllSee C c.args.on_right (c.loop-prepared.s + 1) m) (sym c.store_mask.ensures) more, c.store_mask.auto.masks ∙ c.loop-prepared.invariant.4)
+pub loop-s-preserved : goal.loop-s-preserved
+loop-s-preserved c =
+    let few = c.args.prepared.now.ready.established.symbols.≤most in
+    let stored = rw c.entry_of.ensures at c.store_mask.ensures in
+    rw stored
+    (see_more (contract_of c.args.prepared.now) c.args.on_right c.loop-s.s c.loop-s.masks _ (omega arith) (omega (arith, few, c.mask_of-mask.array_long)) c.loop-s.invariant (rw c.entry_of.ensures at c.mask_of-mask.ensures))
+
+pub returns : goal.returns
+returns c = record { sees = λ s h k. c.loop-s.invariant.sees s h (omega arith) }

@@ -30,6 +30,6 @@ returns c =
     let kept : length m ≡ length (mid_of g (length t - g) t) = c.fill_lists.auto.lists in
     let h : g ≤ length t = omega (arith, packs.end, packs.long, c.requires.1) in
     let long : length (put_mid g (length t - g) t m) ≡ length t = same_len_mid g (length t - g) t m kept in
-    laid_out _ (put_mid g (length t - g) t m) m c.requires.0 c.layout_of.ensures c.offsets_of.ensures (c.stay_rounds.ensures ∙ ap (λ (s : ℕ). rounds_by c.args.rules.now s) c.entry_of.ensures) c.verdicts_of.ensures packs h (take_put g (length t - g) t m h) long
+    laid_out _ (put_mid g (length t - g) t m) m c.requires.0 c.layout_of.ensures c.offsets_of.ensures (c.stay_rounds.ensures ∙ ap (λ (s : ℕ). rounds_by c.args.contract.now.rules.now s) c.entry_of.ensures) c.verdicts_of.ensures packs h (take_put g (length t - g) t m h) long
     (ap (λ (x : ℕ). part (put_mid g (length t - g) t m) g x) long ∙ part_put g t m (post_of g (length t - g) t) h (kept ∙ length_part g t))
     c.fill_lists.ensures

@@ -4,5 +4,7 @@ use Rattle.preparing.proofs.pack.Goals as goal
 
 pub returns : goal.returns
 returns c =
-    packed _ c.append-a.ensures c.append-b.ensures c.append-c.ensures c.append-d.ensures c.append-e.ensures c.append-f.ensures c.append-g.ensures
-    c.requires.0
+    packed _ _ c.append-counts.ensures c.append-rows.ensures c.append-inputs.ensures c.append-output_table.ensures c.append-outputs.ensures
+    c.append-nodes.ensures
+    c.append-rules.ensures
+    c.requires

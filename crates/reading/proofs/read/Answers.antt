@@ -1,17 +1,13 @@
 -- What is refused and what is taken follow from what the numbers looked at begin with.
-use mathlib.Core.Path.{ap, sym, ◌∙◌}
-use Rattle.reading.specs.Answers.{leading_of}
-use Rattle.reading.proofs.Verdicts.{tree_there, verdict_begins, taken_begins}
+use mathlib.Core.Path.{sym, ◌∙◌}
+use Rattle.std.proofs.Common.{rules}
+use Rattle.reading.proofs.Verdicts.{told_verdict, told_taken, verdict_begins, taken_begins}
 use Rattle.reading.proofs.read.Goals as goal
 
-pub returns-in-Ends : goal.returns-in-Ends
-returns-in-Ends c =
-    let looked = c.looked_at-end.ensures in
-    let begins = sym c.leading_tree.ensures ∙ ap leading_of c.in-Ends.is in
-    record { result_value = tree_there _ _ ∙ verdict_begins _ _ _ _ looked begins; result_value_2 = taken_begins _ _ _ _ looked begins }
+pub returns-clause-result_value : goal.returns-clause-result_value
+returns-clause-result_value c =
+    told_verdict _ _ _ _ c.map_err.ensures.cases (λ place fault said. search rules)
+    ∙ verdict_begins _ _ _ _ c.looked_at-end.ensures (sym c.leading_tree.ensures)
 
-pub returns-in-Faulty : goal.returns-in-Faulty
-returns-in-Faulty c =
-    let looked = c.looked_at-end.ensures in
-    let begins = sym c.leading_tree.ensures ∙ ap leading_of c.in-Faulty.is in
-    record { result_value = c.fault_of.ensures ∙ verdict_begins _ _ _ _ looked begins; result_value_2 = taken_begins _ _ _ _ looked begins }
+pub returns-clause-result_value_2 : goal.returns-clause-result_value_2
+returns-clause-result_value_2 c = told_taken _ c.leading_tree.result c.map_err.result c.map_err.ensures.cases ∙ taken_begins _ _ _ _ c.looked_at-end.ensures (sym c.leading_tree.ensures)

@@ -1,18 +1,28 @@
--- Invariant: the loops stand at a right row. Measure: the right rows left.
+-- The loops begin behind the pairs of the round before, and pass over rows without a mark.
+use mathlib.Core.Path.{refl, sym, ◌∙◌}
 use native.Mathlib.Omega.{arith}
-use Rattle.kind_lists.proofs.Stops.{goes}
-use Rattle.round_pairs.specs.Steps.{pass_rights, next_left}
+use Rattle.round_pairs.specs.Steps.{begin_right, pass_right, next_left}
 use Rattle.round_pairs.proofs.Visits.{at_stood}
 use Rattle.round_pairs.proofs.right_rows.Goals as goal
 
-pub next_marked-right-requires : goal.next_marked-right-requires
-next_marked-right-requires c =
-    (omega (arith, c.requires.3, c.requires.0.prepared.established.symbols.≤most), omega arith, (at_stood c.requires.1).1)
+pub loop-right-init : goal.loop-right-init
+loop-right-init c = (begin_right _ c.requires.0 refl c.requires.2 c.first_right-right.result c.first_right-right.ensures).0
 
-pub loop-right-preserved : goal.loop-right-preserved
-loop-right-preserved c =
-    let marked = c.next_marked-right.ensures in
-    (pass_rights _ (goes _ _ _ _ _ _ c.visit_pair-step.result _ c.in-Going.is c.visit_pair-step.ensures) c.requires.2 c.requires.3 c.requires.4 marked, marked.within)
+pub is_marked-requires : goal.is_marked-requires
+is_marked-requires c =
+    (omega (arith, (at_stood c.requires.0).1), omega (arith, c.requires.2, c.args.prepared.now.ready.established.symbols.≤most))
+
+pub loop-right-preserved-then-not-is_marked : goal.loop-right-preserved-then-not-is_marked
+loop-right-preserved-then-not-is_marked c =
+    pass_right _ c.loop-right.invariant c.requires.1 c.requires.2 c.requires.3 (omega arith) (sym c.is_marked.ensures ∙ c.if-not-is_marked.true)
+
+pub overflow_cast-pair : goal.overflow_cast-pair
+overflow_cast-pair c = omega (arith, (at_stood c.requires.0).1)
+
+pub overflow_cast-pair-in-loop-right : goal.overflow_cast-pair-in-loop-right
+overflow_cast-pair-in-loop-right c = omega (arith, (at_stood c.requires.0).1)
 
 pub returns : goal.returns
-returns c = next_left _ c.loop-right.invariant.0 (omega (arith, c.loop-right.invariant.1, c.loop-right-test.false))
+returns c =
+    let begun = begin_right _ c.requires.0 refl c.requires.2 c.first_right-right.result c.first_right-right.ensures in
+    next_left _ c.loop-right.invariant (omega (arith, begun.1))

@@ -1,49 +1,33 @@
--- `running::run_admitted` meets its contract: what follows from each verdict before the work.
-use mathlib.Core.Path.{◌≡◌, ap, sym, ◌∙◌}
-use lib.ListN.{length}
-use Rattle.model.specs.Answers.{Verdict, refuse_if, ◌then◌}
-use Rattle.model.specs.Documents.{numbers_taken}
-use Rattle.model.specs.Running.{rows_wrong}
-use Rattle.model.specs.Tables.{Transformation}
-use Rattle.plans.specs.Plans.{transformation_of}
-use Rattle.running.specs.Work.{verdict_of}
-use Rattle.running.specs.Promises.{before_work}
+-- The buffer is refused, the document is, or neither.
+use Rattle.std.proofs.Common.{sym, ◌∙◌}
+use Rattle.std.proofs.lemmas.Result.{err_from_is_err_and}
+use Rattle.tables.specs.Handed.{handed}
 use Rattle.running.proofs.Admitting.{buffer_refused, document_refused, rows_few, taken_there, taken_read, document_run}
 use Rattle.running.proofs.run_admitted.Goals as goal
 
+pub returns-then-tuples_wrong : goal.returns-then-tuples_wrong
+returns-then-tuples_wrong c = buffer_refused _ c.args.numbers.now c.args.rows.now (sym c.tuples_wrong.ensures ∙ c.if-tuples_wrong.true)
+
+pub returns-in_err-taken : goal.returns-in_err-taken
+returns-in_err-taken c =
+    let end = err_from_is_err_and c.from_residual.result c.from_residual.ensures.1 in
+    rw (end.1, end.2)
+    (document_refused _ c.args.numbers.now c.args.rows.now (sym c.tuples_wrong.ensures ∙ c.if-tuples_wrong.false) _ c.in_err-taken.ensures.result_value)
+
 pub slice_bounds-run_document-end : goal.slice_bounds-run_document-end
 slice_bounds-run_document-end c =
-    let handed : Transformation = let s = c.args in transformation_of s.symbols s.counts.now s.nodes.now s.rules.now in
-    let said : verdict_of c.verdict_before.result ≡ before_work c.args.symbols c.args.numbers.now (length c.args.rows.now) = c.verdict_before.ensures ∙ ap (λ (v : Verdict). refuse_if (rows_wrong (length c.args.rows.now)) 9 0 then v) c.read-reading.ensures.result_value in
-    let taken : c.taken_of-taken.result ≡ numbers_taken c.args.symbols c.args.numbers.now = c.taken_of-taken.ensures ∙ c.read-reading.ensures.result_value_2 in
-    let s = c.args in
-    sym (taken_there handed s.numbers.now s.rows.now _ said c.in-Fine.is _ taken)
+    let right = sym c.tuples_wrong.ensures ∙ c.if-tuples_wrong.false in
+    let read = c.in_ok-taken.ensures in
+    sym (taken_there (handed c.args.contract.now).transformation c.args.numbers.now c.args.rows.now right read.result_value _ read.result_value_2)
 
 pub run_document-requires : goal.run_document-requires
 run_document-requires c =
-    let handed : Transformation = let s = c.args in transformation_of s.symbols s.counts.now s.nodes.now s.rules.now in
-    let said : verdict_of c.verdict_before.result ≡ before_work c.args.symbols c.args.numbers.now (length c.args.rows.now) = c.verdict_before.ensures ∙ ap (λ (v : Verdict). refuse_if (rows_wrong (length c.args.rows.now)) 9 0 then v) c.read-reading.ensures.result_value in
-    let taken : c.taken_of-taken.result ≡ numbers_taken c.args.symbols c.args.numbers.now = c.taken_of-taken.ensures ∙ c.read-reading.ensures.result_value_2 in
-    let s = c.args in
-    let fine = c.in-Fine.is in
-    (c.requires, taken_read handed s.numbers.now s.rows.now _ said fine _ taken c.requires.symbols.≤most, rows_few handed s.numbers.now s.rows.now _ said fine _ taken)
+    let right = sym c.tuples_wrong.ensures ∙ c.if-tuples_wrong.false in
+    let read = c.in_ok-taken.ensures in
+    (c.requires, taken_read (handed c.args.contract.now).transformation c.args.numbers.now c.args.rows.now right read.result_value _ read.result_value_2 c.requires.symbols.≤most, rows_few (handed c.args.contract.now).transformation c.args.numbers.now c.args.rows.now right)
 
-pub returns-in-Buffer : goal.returns-in-Buffer
-returns-in-Buffer c =
-    let handed : Transformation = let s = c.args in transformation_of s.symbols s.counts.now s.nodes.now s.rules.now in
-    let said : verdict_of c.verdict_before.result ≡ before_work c.args.symbols c.args.numbers.now (length c.args.rows.now) = c.verdict_before.ensures ∙ ap (λ (v : Verdict). refuse_if (rows_wrong (length c.args.rows.now)) 9 0 then v) c.read-reading.ensures.result_value in let s = c.args in buffer_refused handed s.numbers.now s.rows.now _ said c.in-Buffer.is
-
-pub returns-in-Document : goal.returns-in-Document
-returns-in-Document c =
-    let handed : Transformation = let s = c.args in transformation_of s.symbols s.counts.now s.nodes.now s.rules.now in
-    let said : verdict_of c.verdict_before.result ≡ before_work c.args.symbols c.args.numbers.now (length c.args.rows.now) = c.verdict_before.ensures ∙ ap (λ (v : Verdict). refuse_if (rows_wrong (length c.args.rows.now)) 9 0 then v) c.read-reading.ensures.result_value in
-    let s = c.args in
-    document_refused handed s.numbers.now s.rows.now _ said c.in-Document.fault c.in-Document.is
-
-pub returns-in-Fine : goal.returns-in-Fine
-returns-in-Fine c =
-    let handed : Transformation = let s = c.args in transformation_of s.symbols s.counts.now s.nodes.now s.rules.now in
-    let said : verdict_of c.verdict_before.result ≡ before_work c.args.symbols c.args.numbers.now (length c.args.rows.now) = c.verdict_before.ensures ∙ ap (λ (v : Verdict). refuse_if (rows_wrong (length c.args.rows.now)) 9 0 then v) c.read-reading.ensures.result_value in
-    let taken : c.taken_of-taken.result ≡ numbers_taken c.args.symbols c.args.numbers.now = c.taken_of-taken.ensures ∙ c.read-reading.ensures.result_value_2 in
-    let s = c.args in
-    document_run handed s.numbers.now s.rows.now _ said c.in-Fine.is _ taken c.run_document.ensures
+pub returns : goal.returns
+returns c =
+    let right = sym c.tuples_wrong.ensures ∙ c.if-tuples_wrong.false in
+    let read = c.in_ok-taken.ensures in
+    document_run _ c.args.numbers.now c.args.rows.now right read.result_value _ read.result_value_2 c.run_document.ensures

@@ -1,15 +1,9 @@
--- `judgings_of_c1` meets its contract: line behind line.
-use mathlib.Core.List.{[], ◌∷◌, ◌++◌}
-use Rattle.printing.proofs.Runs.{appended_both}
-use Rattle.worked_table.specs.Questions as questions
-use Rattle.worked_table.specs.WorkedContracts.{both_accepted, C1}
-use Rattle.worked.specs.Lines.{line, judgings_of_c1}
-use borrow.Author.Rules.{rules}
+-- Line behind line.
+use Rattle.printing.proofs.Texts.{appends_both}
+use Rattle.worked.proofs.Texts.{line_of}
+use Rattle.worked.specs.Lines.{judgings_of_c1}
 use Rattle.worked.proofs.judgings_of_c1.Goals as goal
 
 pub returns : goal.returns
 unfolding judgings_of_c1
-returns c =
-    let a = c.args in
-    let both = appended_both a.out.now a.at (line (88 ∷ 57 ∷ []) (C1 both_accepted) (questions.judge (1 ∷ 0 ∷ [])) ++ (line (88 ∷ 49 ∷ 48 ∷ []) (C1 both_accepted) (questions.judge (1 ∷ 0 ∷ 0 ∷ 0 ∷ [])))) (line (88 ∷ 49 ∷ 49 ∷ []) (C1 both_accepted) (questions.judge [])) (appended_both a.out.now a.at (line (88 ∷ 57 ∷ []) (C1 both_accepted) (questions.judge (1 ∷ 0 ∷ []))) (line (88 ∷ 49 ∷ 48 ∷ []) (C1 both_accepted) (questions.judge (1 ∷ 0 ∷ 0 ∷ 0 ∷ []))) (c.judge_c1-place.ensures.value, c.judge_c1-place.ensures.out_after) (c.judge_c1-place-2.ensures.value, c.judge_c1-place-2.ensures.out_after)) (c.judge_c1.ensures.value, c.judge_c1.ensures.out_after) in
-    record { value = both.0; out_after = both.1 }
+returns c = appends_both (appends_both (line_of _ _ c.c1.ensures c.append_line.ensures) (line_of _ _ c.c1-2.ensures c.append_line-2.ensures)) (line_of _ _ c.c1-3.ensures c.append_line-3.ensures)

@@ -1,35 +1,33 @@
--- `writing::write_out` meets its contract: each answer is the one that the tests before it lead to in the definition.
--- The tree's size, counted no further than one above the room, tells whether the tree fits.
-use mathlib.Core.Path.{sym, ◌∙◌}
+-- Each answer is the one that the tests before it lead to in the definition.
 use native.Mathlib.Omega.{arith}
-use Rattle.writing.proofs.Answers.{Ready, ready, row_few, wrong_length, wrong_row, no_row, no_room, fits, all_written}
+use Rattle.std.proofs.lemmas.Result.{err_from_is_err_and}
+use Rattle.writing.proofs.Answers.{wrong_rows, no_row, row_few, no_room, all_written}
 use Rattle.writing.proofs.write_out.Goals as goal
 
-pub returns-then-rows_wrong : goal.returns-then-rows_wrong
-returns-then-rows_wrong c = wrong_length _ _ _ (sym c.rows_wrong.ensures ∙ c.if-rows_wrong.true)
-
-pub returns-then-wrong-count : goal.returns-then-wrong-count
-returns-then-wrong-count c = wrong_row _ _ _ (sym c.rows_wrong.ensures ∙ c.if-rows_wrong.false) _ c.first_wrong_row-wrong.ensures (omega arith)
+pub returns-in_err-table : goal.returns-in_err-table
+returns-in_err-table c =
+    let e = err_from_is_err_and c.from_residual.result c.from_residual.ensures.1 in
+    rw (e.1, e.2) (wrong_rows c.args.rows.now c.args.row c.args.buffer.now c.in_err-table.field-0.0 c.in_err-table.ensures.verdict)
 
 pub returns-then-count-row : goal.returns-then-count-row
-returns-then-count-row c = no_row _ _ _ (sym c.rows_wrong.ensures ∙ c.if-rows_wrong.false) _ c.first_wrong_row-wrong.ensures c.if-wrong-count.false c.if-count-row.true
+returns-then-count-row c =
+    let all = rw c.in_ok-table.ensures.same at c.count.ensures in
+    no_row _ _ c.args.buffer.now c.in_ok-table.ensures.verdict (omega arith)
 
 pub tree_size-size-requires : goal.tree_size-size-requires
 tree_size-size-requires c =
-    let tested : Ready c.args.rows.now c.args.row = ready _ _ _ (sym c.rows_wrong.ensures ∙ c.if-rows_wrong.false) c.first_wrong_row-wrong.ensures c.if-wrong-count.false c.if-count-row.false in record { none_wrong = tested.fine; row_bound = omega (arith, row_few _ _ tested) }
+    let all = rw c.in_ok-table.ensures.same at c.count.ensures in
+    let few = row_few c.args.rows.now c.args.row c.args.buffer.now c.in_ok-table.ensures.verdict (omega arith) in
+    rw c.in_ok-table.ensures.same (omega arith, omega arith, omega arith, omega arith)
 
 pub returns-then-room-size : goal.returns-then-room-size
 returns-then-room-size c =
-    let tested : Ready c.args.rows.now c.args.row = ready _ _ _ (sym c.rows_wrong.ensures ∙ c.if-rows_wrong.false) c.first_wrong_row-wrong.ensures c.if-wrong-count.false c.if-count-row.false in no_room _ _ _ tested _ c.tree_size-size.ensures (omega arith)
-
-pub write_row-requires : goal.write_row-requires
-write_row-requires c =
-    let tested : Ready c.args.rows.now c.args.row = ready _ _ _ (sym c.rows_wrong.ensures ∙ c.if-rows_wrong.false) c.first_wrong_row-wrong.ensures c.if-wrong-count.false c.if-count-row.false in
-    let r = tested in
-    record { none_wrong = r.fine; k_bound = r.here; k_in_bounds = fits _ _ c.args.buffer.now r _ c.tree_size-size.ensures (omega arith) }
+    let all = rw c.in_ok-table.ensures.same at c.count.ensures in
+    no_room _ _ _ c.in_ok-table.ensures.verdict (omega arith) _ (rw c.in_ok-table.ensures.same at c.tree_size-size.ensures) (omega arith)
 
 pub returns : goal.returns
 returns c =
-    let tested : Ready c.args.rows.now c.args.row = ready _ _ _ (sym c.rows_wrong.ensures ∙ c.if-rows_wrong.false) c.first_wrong_row-wrong.ensures c.if-wrong-count.false c.if-count-row.false in
-    all_written _ _ c.args.buffer.now tested _ c.tree_size-size.ensures c.if-room-size.false _
-    c.write_row.ensures.0 _ c.write_row.ensures.1
+    let all = rw c.in_ok-table.ensures.same at c.count.ensures in
+    all_written _ _ c.args.buffer.now c.in_ok-table.ensures.verdict (omega arith) _ (rw c.in_ok-table.ensures.same at c.tree_size-size.ensures) c.if-room-size.false
+    _ (rw c.in_ok-table.ensures.same at c.write_row.ensures.0)
+    _ (rw c.in_ok-table.ensures.same at c.write_row.ensures.1)

@@ -1,15 +1,12 @@
--- `first_bad_count` finds the first place at which its test holds. Invariant: no place passed holds it; measure: the places left.
--- The test at each place is `count_wrong`.
-use mathlib.Core.Path.{◌≡◌, sym, ◌∙◌}
-use native.Mathlib.Omega.{arith}
-use lib.ListN.{length}
-use Rattle.foundation.specs.Search.{first_at, first_none}
+-- `first_bad_count`: the place found is one of at most sixteen.
+use Rattle.std.proofs.Common.{rules, ◌≡◌, Some, length, arith}
+use Rattle.foundation.specs.Search.{first_below}
+use Rattle.model.specs.Admission.{count_wrong}
+use Rattle.admission_tables.proofs.Found.{found_inside}
 use Rattle.admission_tables.proofs.entries.first_bad_count.Goals as goal
 
-pub returns-then-count_wrong : goal.returns-then-count_wrong
-returns-then-count_wrong c = sym (first_at _ _ _ (omega arith) c.loop-k.invariant.1 (sym c.count_wrong.ensures ∙ c.if-count_wrong.true))
-
-pub returns : goal.returns
-returns c =
-    let end : c.loop-k.k ≡ length c.args.counts.now = omega arith in
-    sym (first_none _ _ (rw end at c.loop-k.invariant.1))
+pub overflow_cast-result : goal.overflow_cast-result
+overflow_cast-result c =
+    let counts = c.args.counts.now in
+    let found : Some c.in_ok-place.place ≡ first_below (count_wrong counts) (length counts) = search rules in
+    omega (arith, found_inside (count_wrong counts) _ _ found)

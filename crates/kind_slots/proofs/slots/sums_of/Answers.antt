@@ -1,8 +1,15 @@
--- Dropping the carry at each addition drops it from the whole.
-use Rattle.kind_slots.specs.Slots.{kind_sum, weighted_sum}
-use Rattle.kind_slots.proofs.Sums.{sum_of_words, sum_of_sums}
+-- One word more, and all five.
+use Rattle.std.proofs.Common.{◌<◌, arith, get_or-take}
+use Rattle.kind_slots.proofs.Sums.{sums_none, sums_more, sums_all}
 use Rattle.kind_slots.proofs.slots.sums_of.Goals as goal
 
+pub loop-word-init : goal.loop-word-init
+loop-word-init c = sums_none _
+
+pub loop-word-preserved : goal.loop-word-preserved
+loop-word-preserved c =
+    let inside : c.loop-word.word-index < 5 = omega arith in
+    sums_more _ _ _ _ _ c.loop-word.invariant.0 c.loop-word.invariant.1 (get_or-take 5 _ _ 0 inside)
+
 pub returns : goal.returns
-unfolding kind_sum weighted_sum
-returns c = (sum_of_words _ _ _ _ _ c.plus-two.ensures c.plus-three.ensures c.plus-four.ensures c.plus-five.ensures, sum_of_sums _ _ _ _ _ c.plus-two.ensures c.plus-three.ensures c.plus-four.ensures c.plus-five.ensures c.plus.ensures c.plus-2.ensures c.plus-3.ensures c.plus-weighted.ensures)
+returns c = sums_all _ _ _ _ (omega arith) c.loop-word.invariant.0 c.loop-word.invariant.1

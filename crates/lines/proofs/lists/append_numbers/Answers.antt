@@ -1,39 +1,17 @@
--- `append_numbers` meets its contract. The invariant: the numbers passed are appended. The measure is how many are left.
-use native.Mathlib.Omega.{arith}
-use Rattle.lines.proofs.Listings.{listed_start, listed_length, listed_more, listed_end}
+-- One number more.
+use Rattle.std.proofs.Common.{◌≡◌, sym, ap, ◌∙◌, ◌<◌, length, map, get_or, arith}
+use Rattle.std.proofs.lemmas.List.{get_or-map}
+use Rattle.std.proofs.lemmas.List.{length-map}
+use Rattle.lines.proofs.Listings.{spaced_none, spaced_next}
 use Rattle.lines.proofs.lists.append_numbers.Goals as goal
 
-pub clipped-place-requires : goal.clipped-place-requires
-clipped-place-requires c = tt
+pub loop-n-init : goal.loop-n-init
+loop-n-init g c = spaced_none c.clip.ensures
 
-pub loop-i-init : goal.loop-i-init
-loop-i-init c = listed_start _ _ _ _ c.clipped-place.ensures
-
-pub offset_bounds-numbers-i : goal.offset_bounds-numbers-i
-offset_bounds-numbers-i c = omega arith
-
-pub bounds-numbers-i : goal.bounds-numbers-i
-bounds-numbers-i c = omega arith
-
-pub wide-value-requires : goal.wide-value-requires
-wide-value-requires c = tt
-
-pub append_behind_space-place-requires : goal.append_behind_space-place-requires
-append_behind_space-place-requires c = tt
-
-pub overflow_add-i : goal.overflow_add-i
-overflow_add-i c = omega arith
-
-pub loop-i-smaller : goal.loop-i-smaller
-loop-i-smaller c = omega arith
-
-pub loop-i-preserved : goal.loop-i-preserved
-loop-i-preserved c = listed_more c.args.out.now c.args.at c.args.numbers.now c.loop-i.invariant _ (omega arith) c.wide-value.ensures (c.append_behind_space-place.ensures.value, c.append_behind_space-place.ensures.out_after)
-
-pub shape_of-out : goal.shape_of-out
-shape_of-out c = listed_length c.args.out.now c.args.at c.args.numbers.now c.loop-i.invariant
-
-pub returns : goal.returns
-returns c =
-    let both = listed_end c.args.out.now c.args.at c.args.numbers.now c.loop-i.invariant (omega arith) in
-    record { value = both.0; out_after = both.1 }
+pub loop-n-preserved : goal.loop-n-preserved
+loop-n-preserved g c =
+    let l = c.args.numbers.now in
+    let i = c.loop-n.n-index in
+    let h : i < length (map g.N.Listed.value l) = rw length-map (omega arith) in
+    let e : c.value.result ≡ get_or (map g.N.Listed.value l) i 0 = c.value.ensures ∙ ap g.N.Listed.value c.n-item.is ∙ sym (get_or-map g.N.Listed.value l i c.n-item.result 0 (omega arith)) in
+    spaced_next (map g.N.Listed.value l) i _ h e c.loop-n.invariant c.append_behind_space.ensures

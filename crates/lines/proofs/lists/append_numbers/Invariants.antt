@@ -1,11 +1,8 @@
--- `append_numbers` meets its contract. The invariant: the numbers passed are appended. The measure is how many are left.
-use Prim.Native.Nat.{◌-◌}
-use lib.ListN.{length}
-use Rattle.lines.proofs.Listings.{Listed}
+-- The numbers passed stand on the page.
+use Rattle.std.proofs.Common.{map, take}
+use Rattle.printing.specs.Appending.{Appends}
+use Rattle.script.specs.Meaning.{spaced}
 use Rattle.lines.proofs.lists.append_numbers.Given as goal
 
-abbrev pub invariant-loop-i : goal.invariant-loop-i
-invariant-loop-i l = Listed l.initial.out l.at l.numbers l.out l.place l.i
-
-abbrev pub decreases-loop-i : goal.decreases-loop-i
-decreases-loop-i l = length l.numbers - l.i
+abbrev pub invariant-loop-n : goal.invariant-loop-n
+invariant-loop-n g l = Appends l.fn.page l.page (spaced (take l.n-index (map g.N.Listed.value l.numbers)))

@@ -1,10 +1,7 @@
--- `append_words` meets its contract: a text behind a text.
-use Rattle.script.specs.Meaning.{spaced}
-use Rattle.printing.proofs.Runs.{appended_both}
-use Rattle.script.specs.Phrases as phrases
+-- Numbers behind a word.
+use Rattle.printing.proofs.Texts.{appends_both}
+use Rattle.lines.proofs.Listings.{spaced_own}
 use Rattle.lines.proofs.lists.append_words.Goals as goal
 
 pub returns : goal.returns
-returns c =
-    let both = appended_both c.args.out.now c.args.at phrases.words (spaced c.args.words.now) (c.append-place.ensures.value, c.append-place.ensures.out_after) (c.append_wide_numbers.ensures.value, c.append_wide_numbers.ensures.out_after) in
-    record { value = both.0; out_after = both.1 }
+returns c = appends_both c.append.ensures (spaced_own c.args.words.now c.append_numbers.ensures)

@@ -1,11 +1,7 @@
--- A space, the text and a line feed, one behind another.
-use Rattle.answers.specs.Numbers.{writing_answer}
-use Rattle.script.specs.Meaning.{written_text}
-use Rattle.lines.proofs.Lined.{line_appended}
+-- A space, the text and a line feed.
+use Rattle.std.proofs.Common.{rules}
+use Rattle.printing.proofs.Texts.{appends_both, appends_byte}
 use Rattle.playing.proofs.whole_lines.writing_line.Goals as goal
 
 pub returns : goal.returns
-returns c =
-    let a = c.args in
-    let both = line_appended a.out.now 0 (written_text (record { answer = writing_answer a.answer; numbers = a.numbers.now })) (c.append_byte-start.ensures.value, c.append_byte-start.ensures.out_after) (c.append_writing-end.ensures.value, c.append_writing-end.ensures.out_after) (c.append_byte.ensures.value, c.append_byte.ensures.out_after) in
-    record { value = both.0; out_after = both.1 }
+returns c = let p = appends_byte c.push.ensures (appends_both c.append_writing.ensures c.push-2.ensures) in search rules

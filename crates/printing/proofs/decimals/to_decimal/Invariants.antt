@@ -1,5 +1,5 @@
--- `to_decimal` meets its contract. The invariant: the number is the digits of what is left in front of those written,
--- and what is left has no more digits than there are places. The measure is the place.
+-- The number is the digits of what is left in front of those written, and what is left has no more digits than there are places. The measure
+-- is the place.
 use Rattle.printing.proofs.Columns.{Column}
 use Rattle.printing.proofs.decimals.to_decimal.Given as goal
 

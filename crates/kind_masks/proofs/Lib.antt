@@ -1,2 +1,0 @@
--- How many ones there are.
-pub mod Ones

@@ -1,7 +1,0 @@
--- `question_word` meets its contract: each word is the definition's choice between it and the words after it.
-use Rattle.lexing.specs.Words.{question_word}
-use Rattle.lexing.proofs.words.question_word.Goals as goal
-
-pub returns : goal.returns
-unfolding question_word
-returns c = rw (c.or_word.ensures, c.or_word-rest-5.ensures, c.or_word-rest-4.ensures, c.or_word-rest-3.ensures, c.or_word-rest-2.ensures, c.or_word-rest.ensures)

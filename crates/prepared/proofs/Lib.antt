@@ -1,0 +1,2 @@
+-- What is known of a table that is prepared.
+pub mod Known

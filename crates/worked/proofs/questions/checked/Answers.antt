@@ -1,0 +1,13 @@
+-- What is lent holds sevens.
+use mathlib.Core.Path.{◌∙◌}
+use Prim.Native.Nat.{ℕ, ◌*◌}
+use native.Mathlib.Omega.{arith}
+use Rattle.std.proofs.lemmas.List.{take-replicate}
+use Rattle.worked_table.specs.Questions.{ask}
+use Rattle.worked.proofs.questions.checked.Goals as goal
+
+pub returns : goal.returns
+unfolding ask
+returns c =
+    rw (← take-replicate {X = ℕ} (3 * c.args.limit) 1536 7 (omega arith), ← take-replicate {X = ℕ} (5 * c.args.limit) 2560 7 (omega arith))
+    (c.of_checking.ensures ∙ c.check.ensures.answered)
