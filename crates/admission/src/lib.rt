@@ -15,7 +15,7 @@ ghost use Rattle.admission.specs.Stages.{shape, types, expressions};
 use admission_expressions::nodes::admit_nodes;
 use admission_expressions::rules::first_bad_rule;
 use admission_tables::entries::{first_bad_count, first_bad_entry, first_bad_input_row};
-use admission_tables::sizes::{first_bad_length, first_bad_size};
+use admission_tables::sizes::{Lengths, first_bad_length, first_bad_size};
 use answers::ContractFault;
 use numbering::fact_total;
 use tables::ContractTables;
@@ -27,10 +27,28 @@ const MOST_FACTS: usize = 256;
 fn admit_shape(contract: &ContractTables) -> Result<(), ContractFault>
     ensures { admission_answer result ≡ admitted_unless (shape (handed contract.now)) }
 {
-    if let Some(place) = first_bad_size(contract) {
+    if let Some(place) = first_bad_size(
+        contract.symbols,
+        contract.input_states,
+        contract.output_states,
+        contract.counts.len(),
+    ) {
         return Err(ContractFault::Size(place));
     }
-    if let Some(table) = first_bad_length(contract) {
+    let lengths = Lengths {
+        input_rows: contract.input_rows.len(),
+        input_marks: contract.input_marks.len(),
+        output_table: contract.output_table.len(),
+        output_marks: contract.output_marks.len(),
+        nodes: contract.nodes.len(),
+        rules: contract.rules.len(),
+    };
+    if let Some(table) = first_bad_length(
+        contract.symbols,
+        contract.input_states,
+        contract.output_states,
+        lengths,
+    ) {
         return Err(ContractFault::Length(table));
     }
     Ok(())

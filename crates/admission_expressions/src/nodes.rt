@@ -5,7 +5,7 @@ ghost use Rattle.answers.specs.Numbers.{admission_answer};
 ghost use Rattle.tables.specs.Tuples.{node_of};
 
 use answers::{ContractFault, NodeFault};
-use tables::{Node, Procedure, Symbol, is_none_of, node_at, reference_count};
+use tables::{Node, Procedure, Symbol, node_at, procedure_wrong, reference_count, symbol_wrong};
 
 // A node's name is no parameter, no symbol or no procedure.
 fn name_wrong(symbols: usize, counts: &[u16], node: Node) -> bool
@@ -15,9 +15,9 @@ fn name_wrong(symbols: usize, counts: &[u16], node: Node) -> bool
         return (node.name < 1) | (2 < node.name);
     }
     if node.tag == 1 {
-        return is_none_of::<Symbol>(symbols, Symbol(node.name));
+        return symbol_wrong(symbols, Symbol(node.name));
     }
-    is_none_of::<Procedure>(counts.len(), Procedure(node.name))
+    procedure_wrong(counts.len(), Procedure(node.name))
 }
 
 // A call's child is not 0 (the node itself), 1 (left) or 2 (right).

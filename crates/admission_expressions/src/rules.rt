@@ -9,7 +9,7 @@ ghost use Rattle.admission_expressions.specs.Uses.{calls_wrong_by, UsesKnown};
 
 use crate::uses::{NO_USES, Uses, fill_uses, uses_at};
 use searching::first_where;
-use tables::{Numbered, Procedure, Rule, Symbol, count_of, is_none_of, rule_at};
+use tables::{Numbered, Rule, Symbol, count_of, procedure_wrong, rule_at};
 
 // A rule's node holds a call that a rule of its symbol must not: any for symbol 0, one that goes to a child for a stay rule, one that
 // stays at the node for other symbols.
@@ -31,7 +31,7 @@ fn rule_wrong(symbols: usize, counts: &[u16], nodes: &[u16], table: &[Uses], rul
     ensures { result ≡ rule_wrong symbols counts.now nodes.now (rule_of rule) }
 {
     let uses = uses_at(table, rule.node);
-    is_none_of::<Procedure>(counts.len(), rule.procedure)
+    procedure_wrong(counts.len(), rule.procedure)
         | (symbols < rule.symbol.number())
         | (nodes.len() / 5 <= usize::from(rule.node))
         | (count_of(counts, rule.procedure) < uses.greatest)

@@ -8,18 +8,18 @@ ghost use Rattle.tables.specs.Tuples.{input_row_of};
 
 use searching::first_where;
 use tables::{
-    InputRow, InputState, OutputState, Procedure, Symbol, count_of, input_row_at, is_none_of,
-    number_at, output_state_at,
+    InputRow, Procedure, count_of, input_row_at, input_state_wrong, number_at, output_state_at,
+    output_state_wrong, symbol_wrong,
 };
 
 // A state or a symbol of an input row is none, or a row for symbol 0 has children.
 fn input_row_wrong(symbols: usize, states: usize, row: InputRow) -> bool
     ensures { result ≡ input_row_wrong symbols states (input_row_of row) }
 {
-    is_none_of::<InputState>(states, row.state)
-        | is_none_of::<Symbol>(symbols, row.symbol)
-        | is_none_of::<InputState>(states, row.left)
-        | is_none_of::<InputState>(states, row.right)
+    input_state_wrong(states, row.state)
+        | symbol_wrong(symbols, row.symbol)
+        | input_state_wrong(states, row.left)
+        | input_state_wrong(states, row.right)
         | ((row.symbol.0 == 0) & !((row.left.0 == 0) & (row.right.0 == 0)))
 }
 
@@ -49,7 +49,7 @@ fn entry_wrong(
         return 1 < number_at(input_marks, k);
     }
     if k < marks {
-        return is_none_of::<OutputState>(output_states, output_state_at(output_table, k - table));
+        return output_state_wrong(output_states, output_state_at(output_table, k - table));
     }
     1 < number_at(output_marks, k - marks)
 }

@@ -4,7 +4,7 @@ ghost use Rattle.foundation.specs.Search.{first_below};
 ghost use Rattle.model.specs.Admission.{outside, size_wrong, table_length, length_wrong};
 
 use searching::first_where;
-use tables::{ContractTables, tuples_wrong};
+use tables::tuples_wrong;
 
 // A number is not one from `least` to `most`.
 pub fn is_outside(least: usize, most: usize, n: usize) -> bool
@@ -14,7 +14,7 @@ pub fn is_outside(least: usize, most: usize, n: usize) -> bool
 }
 
 // The place of the first test that holds, if one does.
-fn first_true(tests: &[bool]) -> Option<usize>
+pub fn first_true(tests: &[bool]) -> Option<usize>
     ensures { result ≡ first_below (λ k. get_or tests.now k false) (length tests.now) }
 {
     first_where(tests.len(), |k| tests[k])
@@ -22,15 +22,19 @@ fn first_true(tests: &[bool]) -> Option<usize>
 
 #[tactic(auto, unfolding(foundation::specs::Search::first))]
 // The first size out of range, by its place: symbols, input states, output states, procedures.
-pub fn first_bad_size(contract: &ContractTables) -> Option<usize>
-    ensures { result ≡ first_below (size_wrong contract.now.symbols contract.now.input_states contract.now.output_states
-        (length contract.now.counts.now)) 4 }
+pub fn first_bad_size(
+    symbols: usize,
+    input_states: usize,
+    output_states: usize,
+    procedures: usize,
+) -> Option<usize>
+    ensures { result ≡ first_below (size_wrong symbols input_states output_states procedures) 4 }
 {
     let wrong = [
-        is_outside(1, 16, contract.symbols),
-        is_outside(1, 32, contract.input_states),
-        is_outside(1, 4, contract.output_states),
-        is_outside(1, 16, contract.counts.len()),
+        is_outside(1, 16, symbols),
+        is_outside(1, 32, input_states),
+        is_outside(1, 4, output_states),
+        is_outside(1, 16, procedures),
     ];
     first_true(&wrong)
 }
@@ -43,21 +47,36 @@ pub fn table_length(symbols: usize, output_states: usize) -> usize
     1 + (symbols - 1) * output_states * output_states
 }
 
+// How long the six tables are.
+#[derive(Clone, Copy, Debug, PartialEq, Eq)]
+pub struct Lengths {
+    pub input_rows: usize,
+    pub input_marks: usize,
+    pub output_table: usize,
+    pub output_marks: usize,
+    pub nodes: usize,
+    pub rules: usize,
+}
+
 #[tactic(auto, unfolding(foundation::specs::Search::first))]
 // The first table of a wrong length, by its place: input rows, input marks, output table, output marks, nodes, rules.
-pub fn first_bad_length(contract: &ContractTables) -> Option<usize>
-    requires { (1 ≤ contract.now.symbols) × (contract.now.symbols ≤ 16) × (contract.now.output_states ≤ 4) }
-    ensures { result ≡ first_below (length_wrong contract.now.symbols contract.now.input_states contract.now.output_states
-        (length contract.now.input_rows.now) (length contract.now.input_marks.now) (length contract.now.output_table.now)
-        (length contract.now.output_marks.now) (length contract.now.nodes.now) (length contract.now.rules.now)) 6 }
+pub fn first_bad_length(
+    symbols: usize,
+    input_states: usize,
+    output_states: usize,
+    lengths: Lengths,
+) -> Option<usize>
+    requires { (1 ≤ symbols) × (symbols ≤ 16) × (output_states ≤ 4) }
+    ensures { result ≡ first_below (length_wrong symbols input_states output_states lengths.input_rows lengths.input_marks
+        lengths.output_table lengths.output_marks lengths.nodes lengths.rules) 6 }
 {
     let wrong = [
-        tuples_wrong(4, 512, contract.input_rows.len()),
-        contract.input_marks.len() != contract.input_states,
-        contract.output_table.len() != table_length(contract.symbols, contract.output_states),
-        contract.output_marks.len() != contract.output_states,
-        tuples_wrong(5, 256, contract.nodes.len()),
-        tuples_wrong(3, 256, contract.rules.len()),
+        tuples_wrong(4, 512, lengths.input_rows),
+        lengths.input_marks != input_states,
+        lengths.output_table != table_length(symbols, output_states),
+        lengths.output_marks != output_states,
+        tuples_wrong(5, 256, lengths.nodes),
+        tuples_wrong(3, 256, lengths.rules),
     ];
     first_true(&wrong)
 }

@@ -66,16 +66,16 @@ pub fn lane_of_ones(width: u64) -> u64
 // Lanes of `narrow` bits made lanes of `width` bits.
 #[tactic(auto, unfolding(kind_words::specs::Blocks::widened))]
 pub fn widen(states: usize, width: u64, narrow: u64, word: u64) -> u64
-    requires { Sized states width × (0 < narrow) × (narrow < 64) × (narrow ≤ width) }
+    requires { Sized states width × (0 < narrow) × (narrow ≤ width) }
     ensures { result ≡ widened states width narrow word }
 {
-    if narrow == width {
+    if width == narrow {
         return word;
     }
-    let ones = lane_of_ones(narrow);
     let mut wide: u64 = 0;
     for q in 0..states {
         let state = q as u64;
+        let ones = lane_of_ones(narrow);
         wide |= up(lane(word, state * narrow, ones), state * width);
     }
     wide

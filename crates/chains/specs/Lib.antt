@@ -1,2 +1,3 @@
 -- Chains as the code makes them, number by number.
 pub mod Chaining
+pub mod Emptying

@@ -2,7 +2,7 @@
 use Rattle.std.specs.Prelude.{◌≡◌, true, false, ◌||◌, List, ℕ, zero, suc, ◌*◌, ◌<◌, ◌≤◌, ltb, length, Some, None}
 use Rattle.std.proofs.Common.{arith, sym}
 use borrow.Author.Tests.{eq-eqb, ne_eqb, eqb-true, ltb-false, not-false}
-use Rattle.foundation.specs.Search.{first_below, below_at, below_none}
+use Rattle.foundation.specs.Search.{first_below, below_at, below_none, first, first_clear}
 use Rattle.foundation.specs.TestLaws.{or_first, or_second}
 use Rattle.model.specs.Tables.{Contract}
 use Rattle.model.specs.Checking.{limit_wrong}
@@ -55,3 +55,13 @@ module _ (C : Contract) (L : ℕ) (rows words : List ℕ) where
 
     pub row_clear : 1 ≤ L
     row_clear = ltb-false L 1 (or_first (ltb L 1) (ltb 512 L) (clear 0 (omega arith)))
+
+  module _ (place : ℕ) (e : place ≡ first (limit_wrong C L (length rows) (length words)) 3) (h : 3 ≤ place) where
+    clear : (j : ℕ) → j < 3 → limit_wrong C L (length rows) (length words) j ≡ false
+    clear = first_clear (limit_wrong C L (length rows) (length words)) 3 (omega arith)
+
+    pub has_room : Room L 0 rows words
+    has_room = room_clear clear
+
+    pub has_row : 1 ≤ L
+    has_row = row_clear clear

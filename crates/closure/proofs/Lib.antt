@@ -3,3 +3,4 @@ pub mod Searching
 pub mod Openings
 pub mod Classes
 pub mod Verdicts
+pub mod FirstOpen

@@ -1,20 +1,28 @@
 -- What a list of kinds holds: the kind of a symbol over two of its kinds, and what is told of all of these.
-use Rattle.std.specs.Prelude.{◌≡◌, Bool, true, false, List, ℕ, ◌+◌, ◌*◌, ◌<◌, ◌≤◌, length, get_or, Result, Ok, Err}
+use Rattle.std.specs.Prelude.{◌≡◌, Bool, true, false, not, List, ℕ, ◌+◌, ◌*◌, ◌<◌, ◌≤◌, length, get_or, Result, Ok, Err}
 use Rattle.model.specs.Tables.{Contract}
 use Rattle.model.specs.Answers.{Verdict, fine, refused}
 use Rattle.model.specs.Kinds.{next_kind}
 use Rattle.model.specs.Examining.{most_kinds, sent_count, five_words, holds}
 use Rattle.closure.specs.declared.Open.{Open}
+use Rattle.foundation.specs.Search.{first}
 
 module _ (C : Contract) (words : List ℕ) where
   -- the list holds the kind of symbol s over kinds i and j
   abbrev pub held_over : (s i j : ℕ) → Bool
   held_over s i j = holds C words (next_kind C s (five_words words i) (five_words words j))
 
+  -- of these right kinds, the place of the first over which it does not, or how many they are
+  abbrev pub first_open : (s i : ℕ) (rights : List ℕ) → ℕ
+  first_open s i rights = first (λ k. not (held_over s i (get_or rights k 0))) (length rights)
+
   -- numbers of kinds in the list, at most as many as it has
   pub record NumbersOf (rows : List ℕ) : Type 0 where
     pub few : length rows ≤ sent_count words
     pub inside : (k : ℕ) → k < length rows → get_or rows k 0 < sent_count words
+
+  abbrev pub Numbers : (rows : List ℕ) → Type 0
+  Numbers = NumbersOf
 
   -- a symbol over a left kind and these right kinds: closed, or the first of them whose kind is not held
   abbrev pub HeldRight : (s i : ℕ) (rights : List ℕ) (n : ℕ) → Type 0
@@ -50,6 +58,9 @@ module _ (C : Contract) (words : List ℕ) where
   PairsTold s lefts rights (Ok _) = AllHeld s lefts rights
   PairsTold s lefts rights (Err pair) = (pair.symbol.0 ≡ s) × OpenAt s lefts rights pair.left.0 pair.right.0
 
+  abbrev pub TellsPairs : (s : ℕ) (lefts rights : List ℕ) → Result Unit Open → Type 0
+  TellsPairs = PairsTold
+
   -- a symbol over all kinds of the list: closed, or the first two whose kind is not held
   pub record FirstOpen (s i j : ℕ) : Type 0 where
     pub left_inside : i < sent_count words
@@ -61,6 +72,9 @@ module _ (C : Contract) (words : List ℕ) where
   abbrev pub SymbolTold : (s : ℕ) → Result Unit Open → Type 0
   SymbolTold s (Ok _) = (i j : ℕ) → i < sent_count words → j < sent_count words → held_over s i j ≡ true
   SymbolTold s (Err pair) = (pair.symbol.0 ≡ s) × FirstOpen s pair.left.0 pair.right.0
+
+  abbrev pub TellsSymbol : (s : ℕ) → Result Unit Open → Type 0
+  TellsSymbol = SymbolTold
 
 -- the two kinds that are told are of the list
 abbrev pub ToldInside : (count : ℕ) → Result Unit Open → Type 0

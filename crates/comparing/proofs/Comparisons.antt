@@ -7,7 +7,7 @@ use Rattle.std.specs.Prelude.{Result, Ok, Err, MatchResult, IsErrAnd}
 use Rattle.model.specs.Answers.{fine, refused}
 use Rattle.model.specs.Admission.{outside}
 use Rattle.model.specs.Documents.{numbers_taken, leading_verdict}
-use Rattle.model.specs.Shorter.{of_second, shorter_verdict, fewer, shorter}
+use Rattle.model.specs.Shorter.{Stretch, of_second, shorter_verdict, fewer, shorter}
 use Rattle.model.proofs.Laws.Shorter.{second_endless, second_faulty, second-fine, symbols_refused, first_refused, second_verdict, shorter_refused, shorter_fine, Fits, shorter_fits}
 use Rattle.answers.specs.declared.DocumentFault.{DocumentFault}
 use Rattle.answers.specs.declared.DocumentFault.TheVariants as document
@@ -16,7 +16,7 @@ use Rattle.comparing.specs.declared.ComparingFault.{ComparingFault}
 use Rattle.comparing.specs.declared.ComparingFault.TheVariants as fault
 use Rattle.comparing.specs.declared.Stretch as code
 use Rattle.comparing.specs.Answers.{comparing_verdict, verdict_of, stretch_of, stretch_compared}
-use Rattle.comparing.specs.Stretches.{Slice}
+use Rattle.comparing.specs.Stretches.{Slice, part_of, shorter_part}
 
 -- a reading whose fault is told as one of comparing: `Said f e` is what is known of the fault e made of f
 module _ (Said : DocumentFault → ComparingFault → Type 0) where
@@ -38,6 +38,9 @@ module _ (S : ℕ) (first second : Slice) {r : Result code.Stretch ComparingFaul
 
   pub there : Fits S first.now second.now (stretch_of s)
   there = rw same_stretch (shorter_fits S first.now second.now)
+
+  pub handed : part_of (stretch_of s) first second ≡ shorter_part S first second
+  handed = ap (λ (t : Stretch). part_of t first second) same_stretch
 
 module _ (S : ℕ) (xs ys : List ℕ) where
   -- what is promised of a comparison

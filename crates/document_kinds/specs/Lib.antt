@@ -1,2 +1,3 @@
 -- Kinds kept for the places of a document.
 pub mod Stored
+pub mod Flat

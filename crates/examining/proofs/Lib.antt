@@ -1,2 +1,3 @@
 -- The definition's verdict, refusal by refusal.
 pub mod Steps
+pub mod Answers

@@ -1,12 +1,12 @@
 -- Each refusal, and acceptance, as the definition gives them.
-use mathlib.Core.Path.{◌≡◌, ap, sym, ◌∙◌}
+use mathlib.Core.Path.{◌≡◌, ap, sym, ◌∙◌, ap₂}
 use mathlib.Core.Bool.{Bool, true, false, not, ◌||◌}
 use mathlib.Core.List.{List, [], ◌∷◌, ◌++◌}
-use Prim.Native.Nat.{ℕ, ◌*◌, ◌%◌}
+use Prim.Native.Nat.{ℕ, ◌*◌, ◌%◌, ◌+◌, ◌<◌, ◌≤◌}
 use Rattle.std.specs.Prelude.{Some, None}
 use lib.Dec.{eqb, ltb}
 use lib.ListN.{length}
-use Rattle.foundation.specs.Search.{first, first_below, first_cong}
+use Rattle.foundation.specs.Search.{first, first_below, first_cong, first_at, first_none}
 use Rattle.model.specs.Tables.{Contract}
 use Rattle.model.specs.Answers.{Verdict, fine, refused, ◌then◌, refuse_if, refuse_first}
 use Rattle.model.specs.Admission.{admission, admit}
@@ -25,11 +25,20 @@ use Rattle.shown_kinds.specs.Chains.{some_looks_so}
 use Rattle.closure.specs.Search.{Searchable}
 use Rattle.closure.proofs.Searching.{search_holds}
 use Rattle.examining.specs.Answers.{verdict_in, list_verdict, breaking_at}
+use native.Mathlib.Omega.{arith}
+use native.Mathlib.Decide.{ℕ_discrete}
+use borrow.Author.Tests.{not-false, ltb-false}
+use Rattle.kind_masks.specs.Mask.{mask_of}
+use Rattle.foundation.specs.TestLaws.{or_second}
 
 module _ (C : Contract) (words : List ℕ) where
   pub refused_contract : (fault : ContractFault) → contract_refusal fault ≡ admit C → verdict_in (contract_refusal fault) ≡ examining C words
   unfolding admit examining ◌then◌
   refused_contract fault e = let r = refused_as fault (admission C) e in rw (r.verdict, r.says)
+
+  -- a good length
+  short : (not (eqb (length words % 5) 0) || ltb (5 * most_kinds) (length words)) ≡ false → length words ≤ 20480
+  short good = ltb-false _ _ (or_second (not (eqb (length words % 5) 0)) _ good)
 
   pub refused_length : admission C ≡ fine → (not (eqb (length words % 5) 0) || ltb (5 * most_kinds) (length words)) ≡ true
       → refused 70 (length words) ≡ examining C words
@@ -84,3 +93,33 @@ pub search_empty : (C : Contract) → Established C → (words mask chains kind 
     → found ≡ holds C words (empty_kind C)
 search_empty C known words mask chains kind searchable is told =
     told ∙ ap (some_looks_so words mask (sent_count words)) is ∙ search_holds C known words mask chains searchable (empty_kind C) (length_empty_kind C)
+
+-- the search for a breaking kind, kind by kind
+module _ (v : Verdicts) (words : List ℕ) where
+  abbrev pub NoneBreaks : ℕ → Type 0
+  NoneBreaks k = (j : ℕ) → j < k → breaking_at v words j ≡ false
+
+  pub none_more : (k : ℕ) → breaking_at v words k ≡ false → NoneBreaks k → NoneBreaks (k + 1)
+  none_more k here none j h = go (ℕ_discrete j k)
+    where
+      go : Dec (j ≡ k) → breaking_at v words j ≡ false
+      go (yes e) = ap (breaking_at v words) e ∙ here
+      go (no ne) = none j (omega arith)
+
+  pub breaks_at : (k n : ℕ) → k < n → breaking_at v words k ≡ true → NoneBreaks k → k ≡ first (breaking_at v words) n
+  breaks_at k n h here none = sym (first_at (breaking_at v words) n k h none here)
+
+  pub none_breaks : (k n : ℕ) → n ≤ k → k ≤ n → NoneBreaks k → k ≡ first (breaking_at v words) n
+  none_breaks k n a b none = let all : k ≡ n = omega arith in all ∙ sym (first_none (breaking_at v words) n (λ j h. none j (omega arith)))
+
+-- what the test of a search tells
+pub told_missing : (found held : Bool) → found ≡ held → not found ≡ true → held ≡ false
+told_missing false held same missing = sym same
+told_missing true held same missing = sym same ∙ sym missing
+
+pub told_held : (found held : Bool) → found ≡ held → not found ≡ false → held ≡ true
+told_held found held same there = sym same ∙ not-false found there
+
+-- the mask of these numbers of states and facts
+pub mask-of : (states facts : ℕ) {mask : List ℕ} {S F : ℕ} → mask ≡ mask_of states facts → states ≡ S → facts ≡ F → mask ≡ mask_of S F
+mask-of states facts is s f = is ∙ ap₂ mask_of s f

@@ -24,7 +24,7 @@ use closure::{KindNumber, Open, closure_of};
 use kind_masks::kind_mask;
 use kind_slots::stored::kind_at;
 use kinds::empty_of;
-use masks::{Masked, with_masks};
+use masks::Masked;
 use numbering::fact_total;
 use preparing::{most_table, prepare};
 use searching::first_where;
@@ -126,6 +126,6 @@ pub fn examine(contract: &ContractTables, words: &[u64]) -> Result<(), Examining
         return Err(ExaminingRefusal::Length(length));
     }
     let mut table = most_table();
-    let masked = with_masks(prepare(contract, &mut table));
+    let masked = prepare(contract, &mut table);
     examine_prepared(&masked, words)
 }

@@ -19,7 +19,7 @@ use answers::{Judged, Judgement, JudgingRefusal};
 use breaking::{Verdicts, breaks, is_taken};
 use document_kinds::document_kind;
 use prepared::Prepared;
-use preparing::{most_table, prepare, table_length};
+use preparing::{most_table, prepare_table, table_length};
 use reading::read;
 use tables::ContractTables;
 
@@ -73,7 +73,7 @@ fn judge_in(
     requires document { Document contract.now.symbols numbers.now × (length kind.old ≡ 5) }
     ensures { Comes (judged (judgement_result result.judgement) result.taken) kind.new (judged_tree (handed contract.now) (document_tree numbers.now) (length numbers.now)) }
 {
-    let prepared = prepare(contract, table);
+    let prepared = prepare_table(contract, table);
     judge_prepared(&prepared, numbers, kind)
 }
 

@@ -1,11 +1,11 @@
 -- What an offer comes to, by cases.
-use mathlib.Core.Path.{◌≡◌, ap, sym, ◌∙◌}
+use mathlib.Core.Path.{◌≡◌, ap, subst, sym, ◌∙◌}
 use mathlib.Core.Bool.{Bool, true, false, not}
 use mathlib.Core.List.{List}
-use Prim.Native.Nat.{ℕ, ◌+◌}
+use Prim.Native.Nat.{ℕ, ◌+◌, ◌<◌}
 use borrow.Author.Tests.{eq-eqb, ne_eqb}
 use lib.ListN.{set}
-use Rattle.std.specs.Prelude.{Ok, Err}
+use Rattle.std.specs.Prelude.{Result, Ok, Err}
 use Rattle.foundation.specs.Tests.{choose}
 use Rattle.breaking.specs.Verdicts.{breaking}
 use Rattle.breaking.specs.declared.Verdicts.{Verdicts}
@@ -14,6 +14,9 @@ use Rattle.kind_slots.specs.Slots.{is_free, slot_of, entry_of, Entered}
 use Rattle.kind_slots.proofs.Finding.{slots_tell}
 use Rattle.kind_lists.specs.Listing.{with_row, Offering, Becomes, offering}
 use Rattle.kind_lists.specs.declared.Stop.TheVariants as stop
+use Rattle.kind_lists.specs.Closing.{rows_standing}
+use Rattle.kind_lists.specs.declared.ListStop.{ListStop}
+use Rattle.kind_lists.specs.declared.ListStop.TheVariants as list-stop
 
 module _ (v : Verdicts) (limit n symbol left right : ℕ) (kind slots rows words : List ℕ) (e : Entered words n slots) {slot : ℕ} (searched : slot ≡ slot_of words slots kind) {listed : Bool} (occupied : listed ≡ not (is_free slots slot)) where
   abbrev pub outcome : Offering
@@ -51,3 +54,7 @@ module _ (v : Verdicts) (limit n symbol left right : ℕ) (kind slots rows words
           rows = rw (new, room) er;
           words = rw (new, room) ew;
         }
+
+-- the row that breaks a contract is few
+pub standing_small : (p : Result ℕ ListStop) (j : ℕ) → p ≡ Err (list-stop.Breaks j) → rows_standing p < 65536 → j + 1 < 65536
+standing_small p j e h = subst (λ (x : Result ℕ ListStop). rows_standing x < 65536) e h

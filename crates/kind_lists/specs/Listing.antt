@@ -1,5 +1,5 @@
 -- The list of kinds in the lent buffers, with its slots beside it: what becomes of a kind that is offered to it.
-use Rattle.std.specs.Prelude.{List, ◌≡◌, ℕ, ◌+◌, ◌*◌, ◌≤◌, eqb, length, set, Result, Ok, Err}
+use Rattle.std.specs.Prelude.{List, ◌≡◌, ℕ, ◌+◌, ◌*◌, ◌≤◌, eqb, length, set, Result, Ok, Err, take}
 use Rattle.foundation.specs.Tests.{choose}
 use Rattle.kind_slots.specs.Stored.{kind_listed, with_kind}
 use Rattle.kind_slots.specs.Slots.{slot_of, entry_of}
@@ -7,10 +7,15 @@ use Rattle.breaking.specs.Verdicts.{breaking}
 use Rattle.breaking.specs.declared.Verdicts.{Verdicts}
 use Rattle.kind_lists.specs.declared.Stop.{Stop}
 use Rattle.kind_lists.specs.declared.Stop.TheVariants as stop
+use Rattle.foundation.specs.Lists.{zero_filled}
 
 -- row j of the rows replaced
 abbrev pub with_row : List ℕ → (j symbol left right : ℕ) → List ℕ
 with_row rows j symbol left right = set (set (set rows (3 * j) symbol) (3 * j + 1) left) (3 * j + 2) right
+
+-- n numbers that stand, and zeros
+abbrev pub cleared_from : List ℕ → ℕ → List ℕ
+cleared_from l n = zero_filled (length l) (take n l)
 
 -- buffers for `limit` rows, of which n are in use
 pub record Room (limit n : ℕ) (rows words : List ℕ) : Type 0 where

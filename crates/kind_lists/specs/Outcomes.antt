@@ -19,6 +19,11 @@ abbrev pub stop_after : ℕ → Stop → ListStop
 stop_after height (stop.Breaks j) = list-stop.Breaks j
 stop_after height stop.Full = list-stop.Full height
 
+-- how the list ends where offers end so and none is made after them; all trees up to the height have their kinds in it
+abbrev pub ending_of : ℕ → Result ℕ Stop → Result ℕ ListStop
+ending_of height (Ok n) = Ok n
+ending_of height (Err why) = Err (stop_after height why)
+
 module _ (C : Contract) where
   -- the buffers hold a list of n rows, the slots are its slots, and no row breaks the contract
   pub record Unbroken (limit n : ℕ) (slots rows words : List ℕ) (list : List (ListedKind C)) : Type 0 where

@@ -62,6 +62,9 @@ pub record Along (slots : List ℕ) (from others place : ℕ) : Type 0 where
   pub placed : place ≡ from + steps
   pub past : Past slots from others steps
 
+pub along_none : (slots : List ℕ) (from others : ℕ) → Along slots from others from
+along_none slots from others = record { steps = 0; placed = omega arith; past = λ j l. absurd (omega arith) }
+
 module _ (slots : List ℕ) (half : HalfFree slots) (from others : ℕ) where
   past_few : (k : ℕ) → Past slots from others k → k < 1024
   past_few k past = go (dec_lt k 1024)
@@ -187,6 +190,9 @@ module _ (words slots kind : List ℕ) (s : Searchable words slots) where
 
     occupied_here : (entry ≡ 0 → ⊥) → is_free slots (slot_after (first_slot kind) reached.steps) ≡ false
     occupied_here some = ne_eqb _ 0 (λ z. some (reached.read ∙ z))
+
+    pub reached_stands : (entry ≡ 0 → ⊥) → EntryStands words entry
+    reached_stands some = subst (λ (x : ℕ). EntryStands words x) (sym reached.read) (s.stands (slot_after (first_slot kind) reached.steps) (occupied_here some))
 
     -- the search ends at a row of this kind
     pub ends_at_row : same_kind words (row_of entry) kind ≡ true → place % 1024 ≡ slot_of words slots kind

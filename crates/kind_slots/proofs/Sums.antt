@@ -1,5 +1,5 @@
 -- The sums of five words, word by word: dropping the carry at each addition drops it from the whole.
-use Rattle.std.proofs.Common.{◌≡◌, ℕ, zero, suc, ◌+◌, ◌%◌, ◌^◌, List, get_or, refl, ap, ◌∙◌, add-one, arith}
+use Rattle.std.proofs.Common.{◌≡◌, ℕ, zero, suc, ◌+◌, ◌%◌, ◌^◌, List, get_or, refl, ap, ◌∙◌, add-one, arith, ◌*◌}
 use Rattle.kind_slots.specs.Slots.{kind_sum, weighted_sum}
 
 -- the words before place i added, and the sums so far added
@@ -53,3 +53,28 @@ pub sums_all : (kind : List ℕ) (i plain weighted : ℕ) → i ≡ 5 → plain 
 unfolding kind_sum weighted_sum
 sums_all kind i plain weighted e p w =
     (p ∙ ap (plain_to kind) e ∙ plain_is kind 5 ∙ ap (λ (x : ℕ). x % 2 ^ 64) (omega arith), w ∙ ap (weighted_to kind) e ∙ weighted_is kind 5 ∙ ap (λ (x : ℕ). x % 2 ^ 64) (omega arith))
+
+word_and_sum : (a q : ℕ) {y r : ℕ} → y ≡ q % 2 ^ 64 → r ≡ (a + y) % 2 ^ 64 → r ≡ (a + q) % 2 ^ 64
+word_and_sum a q f g = omega arith
+
+module _ (a b c d e : ℕ) {two three four five : ℕ}
+    (p : two ≡ (a + b) % 2 ^ 64) (q : three ≡ (two + c) % 2 ^ 64) (r : four ≡ (three + d) % 2 ^ 64) (s : five ≡ (four + e) % 2 ^ 64) where
+  to_three : three ≡ (a + b + c) % 2 ^ 64
+  to_three = sum_and_word (a + b) c p q
+
+  to_four : four ≡ (a + b + c + d) % 2 ^ 64
+  to_four = sum_and_word (a + b + c) d to_three r
+
+  pub sum_of_words : five ≡ (a + b + c + d + e) % 2 ^ 64
+  sum_of_words = sum_and_word (a + b + c + d) e to_four s
+
+  -- the sum of the sums so far
+  pub sum_of_sums : {first second third all : ℕ} → first ≡ (a + two) % 2 ^ 64 → second ≡ (first + three) % 2 ^ 64 → third ≡ (second + four) % 2 ^ 64
+      → all ≡ (third + five) % 2 ^ 64
+      → all ≡ (5 * a + 4 * b + 3 * c + 2 * d + e) % 2 ^ 64
+  sum_of_sums t u v w =
+      let from_First = word_and_sum a (a + b) p t in
+      let from_Second = sum_of_two (a + (a + b)) (a + b + c) from_First to_three u in
+      let from-third = sum_of_two (a + (a + b) + (a + b + c)) (a + b + c + d) from_Second to_four v in
+      sum_of_two (a + (a + b) + (a + b + c) + (a + b + c + d)) (a + b + c + d + e) from-third sum_of_words w
+      ∙ ap (λ (x : ℕ). x % 2 ^ 64) (omega arith)

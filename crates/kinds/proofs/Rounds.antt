@@ -72,3 +72,11 @@ pub empty_closed : (C : Contract) {kind closed : List ℕ} → kind ≡ leaf_kin
     → closed ≡ empty_kind C ++ (0 ∷ [])
 unfolding leaf_kind empty_kind
 empty_closed C e f = closed_five C _ (length_words C _ _ _) e f
+
+-- elsewhere there are as many as there may be facts
+pub with_all_rounds : (C : Contract) → Established C → (n : ℕ) → n ≡ rounds_of C.transformation → (n ≡ 0 → ⊥) → n ≡ most_facts
+with_all_rounds C known n e some = go (has_stays C.transformation) refl
+  where
+    go : (any : Bool) → has_stays C.transformation ≡ any → n ≡ most_facts
+    go true any = rw any at e
+    go false any = absurd (some (rw any at e))

@@ -6,7 +6,7 @@
 
 ghost use Rattle.std.specs.Prelude.{◌≡◌, [], ◌∷◌, ℕ, ◌+◌, ◌*◌, ◌/◌, ◌^◌, ◌<◌, ◌≤◌, length, get_or};
 ghost use Rattle.std.specs.Int.Bits.{bit_and};
-ghost use Rattle.kind_words.specs.Lanes.{StatesAt, symbol_row, symbol_word, call_lanes};
+ghost use Rattle.kind_words.specs.Lanes.{Sized, StatesAt, symbol_row, symbol_word, call_lanes};
 ghost use Rattle.kind_words.specs.Fits.{LayoutFits};
 
 use tables::{OutputState, output_state_at};
@@ -40,34 +40,19 @@ pub struct Layout {
 
 impl Layout {
     // A lane put at an output state.
-    #[tactic(auto, using(crate::proofs::Room::put_fits))]
     pub fn at_state(&self, lane: u64, state: OutputState) -> u64
-        requires { (state.0 < self.now.states) × (lane < 2 ^ self.now.width) }
+        requires { (state.0 * self.now.width < 64) × (lane * 2 ^ (state.0 * self.now.width) < 2 ^ 64) }
         ensures { result ≡ lane * 2 ^ (state.0 * self.now.width) }
     {
-        up(lane, u64::from(state.0) * self.width)
+        at_state(lane, state, self.width)
     }
 
     // A lane put at every state whose bit of `facts`, `place` further up, is set: the product copies it there.
-    #[tactic(auto, using(crate::proofs::Room::times_fits))]
     pub fn spread(&self, lane: u64, facts: u64, place: u64) -> u64
-        requires { (place < 64) × (lane < 2 ^ self.now.width) }
+        requires { (place < 64) × (lane * bit_and (facts / 2 ^ place) self.now.starts < 2 ^ 64) }
         ensures { result ≡ lane * bit_and (facts / 2 ^ place) self.now.starts }
     {
         lane * ((facts >> place) & self.starts)
-    }
-
-    // An output symbol over one lane of its first word and all lanes of its second; the states stand in the table from `start`.
-    fn symbol_row(&self, table: &[u16], start: usize, first: u64, second: u64) -> u64
-        requires { StatesAt self.now.states start self.now.states table.now × (first < 2 ^ self.now.width) }
-        ensures { result ≡ symbol_row self.now.states self.now.width first second (λ (y : ℕ). get_or table.now (start + y) 0) self.now.states }
-    {
-        let mut word: u64 = 0;
-        for y in 0..self.states {
-            let state = output_state_at(table, start + y);
-            word |= self.at_state(first & (second >> (y as u64 * self.width)), state);
-        }
-        word
     }
 
     // An output symbol over two words.
@@ -79,7 +64,7 @@ impl Layout {
         for x in 0..self.states {
             let row = start + x * self.states;
             let lane = lane(first, x as u64 * self.width, self.ones);
-            word |= self.symbol_row(table, row, lane, second);
+            word |= symbol_row(self.states, self.width, table, row, lane, second);
         }
         word
     }
@@ -135,10 +120,38 @@ pub fn up(word: u64, place: u64) -> u64
     word << place
 }
 
+// A lane put at an output state.
+pub fn at_state(lane: u64, state: OutputState, width: u64) -> u64
+    requires { (state.0 * width < 64) × (lane * 2 ^ (state.0 * width) < 2 ^ 64) }
+    ensures { result ≡ lane * 2 ^ (state.0 * width) }
+{
+    up(lane, u64::from(state.0) * width)
+}
+
 // The bits of a word from a place on, under a mask.
 pub fn lane(word: u64, place: u64, ones: u64) -> u64
     requires { place < 64 }
     ensures { result ≡ bit_and (word / 2 ^ place) ones }
 {
     (word >> place) & ones
+}
+
+// An output symbol over one lane of its first word and all lanes of its second; the states stand in the table from `start`.
+pub fn symbol_row(
+    states: usize,
+    width: u64,
+    table: &[u16],
+    start: usize,
+    first: u64,
+    second: u64,
+) -> u64
+    requires { Sized states width × StatesAt states start states table.now × (first < 2 ^ width) }
+    ensures { result ≡ symbol_row states width first second (λ (y : ℕ). get_or table.now (start + y) 0) states }
+{
+    let mut word: u64 = 0;
+    for y in 0..states {
+        let state = output_state_at(table, start + y);
+        word |= at_state(first & (second >> (y as u64 * width)), state, width);
+    }
+    word
 }

@@ -3,7 +3,7 @@
 use Rattle.std.specs.Prelude.{◌≡◌, refl, List, Bool, true, false, eqb, length, get_or}
 use Rattle.std.proofs.Math.Path.{ap}
 use Rattle.std.proofs.Common.{sym, ◌∙◌, add-zero, mod-lt, mod-eq_of_lt, div-lt_iff_lt-mul}
-use Prim.Native.Nat.{ℕ, zero, suc, ◌+◌, ◌*◌, ◌-◌, ◌/◌, ◌%◌, ◌^◌, ◌<◌, ◌≤◌}
+use Prim.Native.Nat.{ℕ, zero, suc, ◌+◌, ◌*◌, ◌-◌, ◌/◌, ◌%◌, ◌^◌, ◌<◌, ◌≤◌, max}
 use Rattle.std.proofs.Math.Nat.{pow-zero, one-le-pow}
 use native.Mathlib.Omega.{arith}
 use Rattle.std.proofs.Math.Decide.{ℕ_discrete, dec_lt}
@@ -20,6 +20,7 @@ use Rattle.kind_words.specs.Kind.{lanes_fit}
 use Rattle.kind_words.specs.Fits.{LayoutFits}
 use Rattle.kind_words.specs.Called.{pow_one, pow_two}
 use Rattle.kind_words.specs.Nodes.{ParameterIs, LanesAre}
+use Rattle.std.proofs.Math.ListN.{get_or-eq_default}
 
 abbrev pub starts_word : (o l : ℕ) → ℕ
 starts_word o l = or_to (λ q. 1 * 2 ^ (q * l)) o
@@ -146,6 +147,23 @@ module _ (o : ℕ) (some : 0 < o) where
         first_is = λ l. rw (e1, ew) (first-is k l m);
         second_is = λ l. rw (e2, ew) (second_is k l m);
       }
+
+-- one count more
+pub bound_more : (counts : List ℕ) (p greatest larger : ℕ) → ((i : ℕ) → i < p → count_of counts i ≤ greatest) → larger ≡ max greatest (count_of counts p)
+    → (i : ℕ) → i < p + 1 → count_of counts i ≤ larger
+bound_more counts p greatest larger h e i l = go (ℕ_discrete i p)
+  where
+    go : Dec (i ≡ p) → count_of counts i ≤ larger
+    go (yes q) = rw q (omega arith)
+    go (no ne) = omega (arith, h i (omega arith))
+
+-- past the end stands 0
+pub bound_all : (counts : List ℕ) (greatest : ℕ) → ((i : ℕ) → i < length counts → count_of counts i ≤ greatest) → (i : ℕ) → count_of counts i ≤ greatest
+bound_all counts greatest h i = go (dec_lt i (length counts))
+  where
+    go : Dec (i < length counts) → count_of counts i ≤ greatest
+    go (yes l) = h i l
+    go (no l) = let past : length counts ≤ i = omega arith in omega (arith, get_or-eq_default counts 0 past)
 
 pub weight_some : (o greatest : ℕ) → 0 < o → 0 < first_weight o greatest
 weight_some o greatest h = go (eqb greatest 2)

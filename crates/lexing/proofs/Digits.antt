@@ -1,12 +1,13 @@
 -- Numerals, one digit further. A value above 65535 may be taken for 65536: no digit brings it down again.
 use Rattle.std.proofs.Common.{◌≡◌, refl, ap, ◌∙◌, Bool, true, false, List, [], ◌∷◌, ℕ, ◌+◌, ◌*◌, ◌-◌, ◌≤◌, ◌<◌, min, length, get_or, drop, ltb, arith, Result, Ok, Err}
 use Rattle.std.specs.Char.{is_ascii_digit}
-use borrow.Author.Tests.{lt-ltb, le-ltb, ltb-true, ltb-false}
+use borrow.Author.Tests.{lt-ltb, le-ltb, ltb-true, ltb-false, leb-true}
 use Rattle.foundation.specs.Tests.{choose}
-use Rattle.lexing.specs.Numerals.{numeral_from, numeral_of}
+use Rattle.lexing.specs.Numerals.{numeral_from, numeral_of, digit}
 use Rattle.lexing.specs.declared.numerals.NotNumber.{NotNumber}
 use Rattle.lexing.specs.declared.numerals.NotNumber.TheVariants.{TooLarge, Word}
 use Rattle.lexing.proofs.Scans.{at_byte, at_end}
+use lib.Dec.{leb}
 
 -- values that are equal up to 65536 make the same numeral
 capped : (v w : ℕ) (l : List ℕ) → min v 65536 ≡ min w 65536 → numeral_from v l ≡ numeral_from w l
@@ -53,3 +54,10 @@ numeral_some [] h = absurd (omega arith)
 numeral_some (b ∷ rest) h = refl
 
 pub ruleset digits = (numeral_none, numeral_some, numeral_further, numeral_stopped, numeral_fits, numeral_large)
+
+pub digit_least : (b : ℕ) → digit b ≡ true → 48 ≤ b
+digit_least b e = go (leb 48 b) refl e
+  where
+    go : (t : Bool) → leb 48 b ≡ t → digit b ≡ true → 48 ≤ b
+    go true l e = leb-true 48 b l
+    go false l e = absurd (let z : false ≡ true = rw l at e in let q : ◌≡◌ {A = ℕ} 0 1 = cc in omega arith)

@@ -1,9 +1,13 @@
 -- Numerals: tokens of decimal digits, up to 65535.
-use Rattle.std.specs.Prelude.{List, [], ◌∷◌, ℕ, ◌+◌, ◌*◌, ◌-◌, ltb, Result, Ok, Err}
+use Rattle.std.specs.Prelude.{Bool, ◌&&◌, leb, List, [], ◌∷◌, ℕ, ◌+◌, ◌*◌, ◌-◌, ltb, Result, Ok, Err}
 use Rattle.std.specs.Char.{is_ascii_digit}
 use Rattle.foundation.specs.Tests.{choose}
 use Rattle.lexing.specs.declared.numerals.NotNumber.{NotNumber}
 use Rattle.lexing.specs.declared.numerals.NotNumber.TheVariants.{TooLarge, Word}
+
+-- 0 to 9
+abbrev pub digit : ℕ → Bool
+digit b = leb 48 b && leb b 57
 
 -- digits behind those of a value
 unfoldable pub numeral_from : ℕ → List ℕ → Result ℕ NotNumber

@@ -24,3 +24,6 @@ token_end at (b ∷ rest) = choose (ending b) at (token_end (suc at) rest)
 -- how many line feeds there are
 unfoldable pub newlines : List ℕ → ℕ
 newlines text = count_by (λ b. b == 10) text
+
+abbrev pub line_feed : ℕ → ℕ
+line_feed b = choose (eqb b 10) 1 0

@@ -1,19 +1,19 @@
 -- What a symbol can see on a side: the states that its input rows name there, on the right whether the child is the empty forest, and
 -- the facts of the procedures that its rules call there.
-use Rattle.std.specs.Prelude.{◌≡◌, List, ◌++◌, Bool, true, false, eqb, length, take, drop}
+use Rattle.std.specs.Prelude.{◌≡◌, List, ◌++◌, Bool, true, false, eqb, length, set, take, drop}
 use Rattle.std.proofs.Math.Path.{refl}
-use Rattle.std.proofs.Common.{ap, sym, subst, ◌∙◌, true≢false, add-zero, arith, eq-eqb, ne_eqb, ◌⊎◌, inl, inr, get_or-take}
-use Rattle.std.proofs.lemmas.Bool.{cases_lt}
+use Rattle.std.proofs.Common.{ap, sym, subst, ◌∙◌, true≢false, add-zero, arith, eq-eqb, ne_eqb, get_or-set_same, ◌⊎◌, inl, inr, get_or-take}
 use Rattle.std.proofs.lemmas.Grind.{elements}
 use Rattle.std.proofs.lemmas.List.{length-take-le}
-use Rattle.std.proofs.lemmas.List.Edits.{paste_all}
-use Rattle.std.proofs.Math.Seq.{paste}
+use Rattle.std.proofs.lemmas.List.Edits.{paste_none, paste_all}
+use Rattle.std.proofs.Math.Seq.{get_or-set_other, paste, paste-suc}
 use Rattle.std.specs.Coded.{×_prop, Unit-prop}
 use denote.Struct.Props.{props}
-use Prim.Native.Nat.{ℕ, ◌+◌, ◌*◌, ◌^◌, ◌<◌, ◌≤◌}
+use Prim.Native.Nat.{ℕ, zero, suc, ◌+◌, ◌*◌, ◌^◌, ◌<◌, ◌≤◌}
+use Rattle.std.proofs.Math.Numerals.{add-one}
 use Rattle.std.proofs.Math.Decide.{ℕ_discrete}
 use Rattle.std.specs.Int.Bits.{bit_or}
-use Rattle.std.proofs.Math.ListN.{get_or}
+use Rattle.std.proofs.Math.ListN.{get_or, length-set}
 use Rattle.foundation.specs.Tests.{choose, true_test, test_true, some_intro}
 use Rattle.foundation.specs.Words.{bit}
 use Rattle.foundation.specs.Bits.{bit_shl, or_to, or_to_bit}
@@ -163,9 +163,77 @@ covered C known left_masks right_masks l r =
     both s right p f g = g.0 refl
     both s here p f g = absurd (true≢false g.1)
 
--- the mask of symbol s put among the masks
+-- the first n words of the mask of symbol s put among the masks
+unfoldable pub stored_to : (masks : List ℕ) (s : ℕ) (mask : List ℕ) → ℕ → List ℕ
+stored_to masks s mask zero = masks
+stored_to masks s mask (suc n) = set (stored_to masks s mask n) (mask_words * s + n) (get_or mask n 0)
+
+-- .. and all of it
 abbrev pub stored : (masks : List ℕ) (s : ℕ) (mask : List ℕ) → List ℕ
-stored masks s mask = paste masks (mask_words * s) (take mask_words mask) mask_words
+stored masks s mask = stored_to masks s mask mask_words
+
+module _ (masks : List ℕ) (s : ℕ) (mask : List ℕ) where
+  abbrev put : ℕ → List ℕ
+  put n = stored_to masks s mask n
+
+  pub stored_none : masks ≡ put 0
+  unfolding stored_to
+  stored_none = refl
+
+  pub stored_more : (current : List ℕ) (i place : ℕ) → current ≡ put i → place ≡ mask_words * s + i → set current place (get_or mask i 0) ≡ put (i + 1)
+  unfolding stored_to
+  stored_more current i place e f = rw (e, f, add-one i)
+
+  long : (n : ℕ) → length (put n) ≡ length masks
+  unfolding stored_to
+  long zero = refl
+  long (suc n) = length-set (put n) (5 * s + n) (get_or mask n 0) ∙ long n
+
+  kept : (n j : ℕ) → ((i : ℕ) → i < n → (j ≡ 5 * s + i → ⊥)) → get_or (put n) j 0 ≡ get_or masks j 0
+  unfolding stored_to
+  kept zero j h = refl
+  kept (suc n) j h = get_or-set_other (put n) (5 * s + n) j (get_or mask n 0) 0 (h n (omega arith)) ∙ kept n j (λ i l. h i (omega arith))
+
+  put_at : (n i : ℕ) → i < n → 5 * s + n ≤ length masks → get_or (put n) (5 * s + i) 0 ≡ get_or mask i 0
+  unfolding stored_to
+  put_at zero i h l = absurd (omega arith)
+  put_at (suc n) i h l = go (λ k. put_at n i k (omega arith)) (ℕ_discrete i n)
+    where
+      go : (i < n → get_or (put n) (5 * s + i) 0 ≡ get_or mask i 0) → Dec (i ≡ n) → get_or (put (suc n)) (5 * s + i) 0 ≡ get_or mask i 0
+      go before (yes e) = rw e (get_or-set_same (put n) (5 * s + n) (get_or mask n 0) 0 (rw (long n) (omega arith)))
+      go before (no ne) = get_or-set_other (put n) (5 * s + n) (5 * s + i) (get_or mask n 0) 0 (λ e. omega arith) ∙ before (omega arith)
+
+  stored_here : mask_words * s + mask_words ≤ length masks → mask_in (stored masks s mask) s ≡ mask_in mask 0
+  stored_here h =
+      let at : (i : ℕ) → i < 5 → get_or (put 5) (5 * s + i) 0 ≡ get_or mask i 0 = λ i l. put_at 5 i l h in
+      let at0 : get_or (put 5) (5 * s) 0 ≡ get_or mask 0 0 = rw add-zero at (at 0 (omega arith)) in
+      rw (at0, at 1 (omega arith), at 2 (omega arith), at 3 (omega arith), at 4 (omega arith))
+
+  stored_other : (t : ℕ) → (t ≡ s → ⊥) → mask_in (stored masks s mask) t ≡ mask_in masks t
+  stored_other t ne =
+      rw (
+        kept 5 (5 * t) (λ i l e. omega arith),
+        kept 5 (5 * t + 1) (λ i l e. omega arith),
+        kept 5 (5 * t + 2) (λ i l e. omega arith),
+        kept 5 (5 * t + 3) (λ i l e. omega arith),
+        kept 5 (5 * t + 4) (λ i l e. omega arith),
+      )
+
+-- the masks with one symbol's mask more
+pub see_more : (C : Contract) (on_right : Bool) (s : ℕ) (masks mask : List ℕ) → mask_words * s + mask_words ≤ length masks → AllSee C on_right s masks → Sees C s on_right (mask_in mask 0)
+    → AllSee C on_right (s + 1) (stored masks s mask)
+see_more C on_right s masks mask h all own = record { sees = λ t l k. go t l k (ℕ_discrete t s) }
+  where
+    go : (t : ℕ) → 1 ≤ t → t < s + 1 → Dec (t ≡ s) → Sees C t on_right (mask_in (stored masks s mask) t)
+    go t l k (yes e) = rw e (subst (λ (m : List ℕ). Sees C s on_right m) (sym (stored_here masks s mask h)) own)
+    go t l k (no ne) = subst (λ (m : List ℕ). Sees C t on_right m) (sym (stored_other masks s mask t ne)) (all.sees t l (omega arith))
+
+pub see_none : (C : Contract) (on_right : Bool) (masks : List ℕ) → AllSee C on_right 1 masks
+see_none C on_right masks = record { sees = λ s h k. absurd (omega arith) }
+
+-- the mask of symbol s copied over its words at once
+abbrev pub pasted : (masks : List ℕ) (s : ℕ) (mask : List ℕ) → List ℕ
+pasted masks s mask = paste masks (mask_words * s) (take mask_words mask) mask_words
 
 -- a list put into another is read there, and what is before it and behind it stays
 module _ (xs ys : List ℕ) (a n : ℕ) (same : n ≡ length ys) (inside : a + n ≤ length xs) where
@@ -182,39 +250,36 @@ module _ (masks : List ℕ) (s : ℕ) (mask : List ℕ) (five : mask_words ≤ l
   whole : mask_words ≡ length (take mask_words mask)
   whole = sym (length-take-le mask_words mask five)
 
-  stored_is : stored masks s mask ≡ take (mask_words * s) masks ++ (take mask_words mask ++ drop (mask_words * s + mask_words) masks)
-  stored_is = paste_all masks (mask_words * s) (take mask_words mask) mask_words whole
+  pasted_is : pasted masks s mask ≡ take (mask_words * s) masks ++ (take mask_words mask ++ drop (mask_words * s + mask_words) masks)
+  pasted_is = paste_all masks (mask_words * s) (take mask_words mask) mask_words whole
 
-  kept : (j : ℕ) → (j < mask_words * s) ⊎ (mask_words * s + mask_words ≤ j) → get_or (stored masks s mask) j 0 ≡ get_or masks j 0
-  kept j (inl l) = rw stored_is (put_before masks _ (mask_words * s) mask_words whole inside j l)
-  kept j (inr l) = rw stored_is (put_behind masks _ (mask_words * s) mask_words whole inside j l)
+  pasted_to : (n : ℕ) → n ≤ mask_words → paste masks (mask_words * s) (take mask_words mask) n ≡ stored_to masks s mask n
+  unfolding stored_to
+  pasted_to zero h = sym (paste_none masks (mask_words * s) (take mask_words mask))
+  pasted_to (suc n) h =
+      let one : get_or (take mask_words mask) n 0 ≡ get_or mask n 0 = get_or-take mask_words mask n 0 (omega arith) in
+      let more : set (paste masks (mask_words * s) (take mask_words mask) n) (mask_words * s + n) (get_or (take mask_words mask) n 0)
+      ≡ paste masks (mask_words * s) (take mask_words mask) (suc n) =
+      paste-suc masks (mask_words * s) (take mask_words mask) n 0 (omega (arith, whole)) (omega (arith, whole)) in
+      rw (sym more, one, pasted_to n (omega arith))
 
-  put_at : (i : ℕ) → i < mask_words → get_or (stored masks s mask) (mask_words * s + i) 0 ≡ get_or mask i 0
-  put_at i h = rw stored_is (put_in masks _ (mask_words * s) mask_words whole inside i h) ∙ get_or-take mask_words mask i 0 h
+  -- at once or word by word, the same is put
+  pub pasted_stored : pasted masks s mask ≡ stored masks s mask
+  pasted_stored = pasted_to mask_words (omega arith)
 
-  stored_here : mask_in (stored masks s mask) s ≡ mask_in mask 0
-  stored_here =
-      let at0 : get_or (stored masks s mask) (5 * s) 0 ≡ get_or mask 0 0 = rw add-zero at (put_at 0 (omega arith)) in
-      rw (at0, put_at 1 (omega arith), put_at 2 (omega arith), put_at 3 (omega arith), put_at 4 (omega arith))
+  pasted_kept : (j : ℕ) → (j < mask_words * s) ⊎ (mask_words * s + mask_words ≤ j) → get_or (pasted masks s mask) j 0 ≡ get_or masks j 0
+  pasted_kept j (inl l) = rw pasted_is (put_before masks _ (mask_words * s) mask_words whole inside j l)
+  pasted_kept j (inr l) = rw pasted_is (put_behind masks _ (mask_words * s) mask_words whole inside j l)
 
-  stored_other : (t : ℕ) → (t ≡ s → ⊥) → mask_in (stored masks s mask) t ≡ mask_in masks t
-  stored_other t ne =
-      let out : (i : ℕ) → i < mask_words → get_or (stored masks s mask) (mask_words * t + i) 0 ≡ get_or masks (mask_words * t + i) 0 =
-      λ i l. kept (mask_words * t + i) (apart i l) in
-      rw (rw add-zero at (out 0 (omega arith)), out 1 (omega arith), out 2 (omega arith), out 3 (omega arith), out 4 (omega arith))
-    where
-      apart : (i : ℕ) → i < mask_words → (mask_words * t + i < mask_words * s) ⊎ (mask_words * s + mask_words ≤ mask_words * t + i)
-      apart i l = go (cases_lt t s)
-        where
-          go : (t < s) ⊎ (s ≤ t) → (mask_words * t + i < mask_words * s) ⊎ (mask_words * s + mask_words ≤ mask_words * t + i)
-          go (inl h) = inl (omega arith)
-          go (inr h) = inr (omega (arith, ne))
+  pasted_at : (i : ℕ) → i < mask_words → get_or (pasted masks s mask) (mask_words * s + i) 0 ≡ get_or mask i 0
+  pasted_at i h = rw pasted_is (put_in masks _ (mask_words * s) mask_words whole inside i h) ∙ get_or-take mask_words mask i 0 h
 
--- the masks with one symbol's mask more
-pub see_more : (C : Contract) (on_right : Bool) (s : ℕ) (masks mask : List ℕ) → mask_words ≤ length mask → mask_words * s + mask_words ≤ length masks → AllSee C on_right s masks → Sees C s on_right (mask_in mask 0)
-    → AllSee C on_right (s + 1) (stored masks s mask)
-see_more C on_right s masks mask five h all own = record { sees = λ t l k. go t l k (ℕ_discrete t s) }
-  where
-    go : (t : ℕ) → 1 ≤ t → t < s + 1 → Dec (t ≡ s) → Sees C t on_right (mask_in (stored masks s mask) t)
-    go t l k (yes e) = rw e (subst (λ (m : List ℕ). Sees C s on_right m) (sym (stored_here masks s mask five h)) own)
-    go t l k (no ne) = subst (λ (m : List ℕ). Sees C t on_right m) (sym (stored_other masks s mask five h t ne)) (all.sees t l (omega arith))
+  pasted_here : mask_in (pasted masks s mask) s ≡ mask_in mask 0
+  pasted_here = rw pasted_stored (stored_here masks s mask inside)
+
+  pasted_other : (t : ℕ) → (t ≡ s → ⊥) → mask_in (pasted masks s mask) t ≡ mask_in masks t
+  pasted_other t ne = rw pasted_stored (stored_other masks s mask t ne)
+
+  pub pasted_more : (C : Contract) (on_right : Bool) → AllSee C on_right s masks → Sees C s on_right (mask_in mask 0)
+      → AllSee C on_right (s + 1) (pasted masks s mask)
+  pasted_more C on_right all own = rw pasted_stored (see_more C on_right s masks mask inside all own)

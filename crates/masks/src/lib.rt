@@ -165,7 +165,7 @@ fn side_masks(prepared: &Prepared, on_right: bool) -> [u64; MASKS]
 // A prepared contract with its masks.
 #[tactic(auto, using(crate::specs::Seen::covered))]
 pub fn with_masks<'a>(prepared: Prepared<'a>) -> Masked<'a>
-    ensures { contract_of result.prepared ≡ contract_of prepared.entry }
+    ensures { result.prepared ≡ prepared.entry }
 {
     Masked {
         prepared,

@@ -9,7 +9,7 @@ ghost use Rattle.merging_tests.specs.Answers.{type_handed};
 ghost use Rattle.merging.specs.Answers.{merging_answer, Merges};
 
 use merging_pairs::filling::{fill_marks, fill_table};
-use merging_pairs::pairs::States;
+use merging_pairs::pairs::FewStates;
 use merging_tests::{MergingFault, OutputType, test_result, test_types};
 
 // Merges two output types: the table and the marks of the merged type go into the two buffers, whose rest is kept. What comes back is how
@@ -31,7 +31,7 @@ pub fn merge(
         merged_table.len(),
         merged_marks.len(),
     )?;
-    let states = States {
+    let states = FewStates {
         first: first.states,
         second: second.states,
     };

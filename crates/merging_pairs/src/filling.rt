@@ -4,7 +4,7 @@ ghost use Rattle.model.specs.Admission.{table_length};
 ghost use Rattle.model.specs.Merging.{pair_entry, merged_type};
 ghost use Rattle.merging_pairs.specs.Types.{table_only, marks_only, Few, Below, Marks};
 
-use crate::pairs::{States, empty_pair, mark_of, next_pair, pair_of, state_of};
+use crate::pairs::{FewStates, States, empty_pair, mark_of, next_pair, pair_of, state_of};
 use admission_tables::sizes::table_length;
 use tables::{OutputState, Symbol};
 
@@ -36,24 +36,34 @@ fn place_of(states: usize, c: usize) -> Place
 }
 
 // Entry k of the merged table.
-fn entry_of(states: States, first: &[u16], second: &[u16], k: usize) -> OutputState
+fn entry_of(states: FewStates, first: &[u16], second: &[u16], k: usize) -> OutputState
     requires below { Below states.first first.now × Below states.second second.now × (k ≤ 256) }
     ensures { result.0 ≡ pair_entry (table_only states.first first.now) (table_only states.second second.now) k }
 {
+    let counts = States {
+        first: states.first,
+        second: states.second,
+    };
     if k == 0 {
-        return state_of(states, empty_pair(first, second));
+        return state_of(counts, empty_pair(first, second));
     }
     let merged = states.first * states.second;
     let c = k - 1;
     let place = place_of(merged, c);
-    let left = pair_of(states, place.left);
-    let right = pair_of(states, place.right);
-    let next = next_pair(states, first, second, place.symbol, left, right);
-    state_of(states, next)
+    let left = pair_of(counts, place.left);
+    let right = pair_of(counts, place.right);
+    let next = next_pair(counts, first, second, place.symbol, left, right);
+    state_of(counts, next)
 }
 
 // Writes the merged table.
-pub fn fill_table(symbols: usize, states: States, first: &[u16], second: &[u16], merged: &mut [u16])
+pub fn fill_table(
+    symbols: usize,
+    states: FewStates,
+    first: &[u16],
+    second: &[u16],
+    merged: &mut [u16],
+)
     requires symbols { (1 ≤ symbols) × (symbols ≤ 16) }
     requires below { Below states.first first.now × Below states.second second.now }
     requires second_in_bounds { table_length symbols (states.first * states.second) ≤ length merged.old }
@@ -67,7 +77,7 @@ pub fn fill_table(symbols: usize, states: States, first: &[u16], second: &[u16],
 }
 
 // Writes the merged marks; they do not depend on the symbols, so the promise says 1.
-pub fn fill_marks(states: States, first: &[u16], second: &[u16], merged: &mut [u16])
+pub fn fill_marks(states: FewStates, first: &[u16], second: &[u16], merged: &mut [u16])
     requires marks { Marks first.now × Marks second.now }
     requires second_in_bounds { states.first * states.second ≤ length merged.old }
     ensures { merged.new ≡ (merged_type 1 (marks_only states.first first.now) (marks_only states.second second.now)).marks

@@ -21,7 +21,7 @@ pub struct Second;
 
 // A state of one of the two types.
 #[derive(Clone, Copy)]
-pub struct StateOf<T>(pub OutputState, PhantomData<T>);
+pub struct StateOf<T>(pub OutputState, pub PhantomData<T>);
 
 // A state of each type.
 #[derive(Clone, Copy)]
@@ -30,9 +30,16 @@ pub struct Pair {
     pub second: StateOf<Second>,
 }
 
-// How many states each type has: at most four pairs.
+// How many states each type has.
 #[derive(Clone, Copy)]
 pub struct States {
+    pub first: usize,
+    pub second: usize,
+}
+
+// The same of two types that can be merged: they have four pairs of states at most.
+#[derive(Clone, Copy)]
+pub struct FewStates {
     pub first: usize,
     pub second: usize,
     ghost few: { Few first second },
@@ -40,7 +47,7 @@ pub struct States {
 
 // The state of the merged type that stands for a pair.
 pub fn state_of(states: States, pair: Pair) -> OutputState
-    requires { (pair.first.0.0 < 4) × (pair.second.0.0 < 4) }
+    requires { (pair.first.0.0 < 4) × (pair.second.0.0 < 4) × (states.second ≤ 4) }
     ensures { result.0 ≡ pair_number states.second pair }
 {
     let count = states.second as u16;
@@ -50,6 +57,7 @@ pub fn state_of(states: States, pair: Pair) -> OutputState
 
 // The pair that a state of the merged type stands for.
 pub fn pair_of(states: States, state: OutputState) -> Pair
+    requires { (1 ≤ states.second) × (states.second ≤ 4) }
     ensures first_value { result.first.0.0 ≡ first_of states.second state.0 }
     ensures second_value { result.second.0.0 ≡ second_of states.second state.0 }
 {
@@ -98,7 +106,7 @@ pub fn next_pair(
     left: Pair,
     right: Pair,
 ) -> Pair
-    requires { (1 ≤ symbol.0) × (symbol.0 ≤ 256) }
+    requires { (states.first ≤ 4) × (states.second ≤ 4) × (1 ≤ symbol.0) × (symbol.0 ≤ 256) }
     ensures first_value { result.first.0.0 ≡ next_state (table_only states.first first.now) symbol.0 left.first.0.0 right.first.0.0 }
     ensures second_value { result.second.0.0 ≡ next_state (table_only states.second second.now) symbol.0 left.second.0.0 right.second.0.0 }
 {
@@ -116,10 +124,14 @@ fn mark_in<T>(marks: &[u16], state: StateOf<T>) -> u16
 }
 
 // The mark of a state of the merged type: 1 if both states of its pair are accepted.
-pub fn mark_of(states: States, first: &[u16], second: &[u16], state: OutputState) -> u16
+pub fn mark_of(states: FewStates, first: &[u16], second: &[u16], state: OutputState) -> u16
     requires marks { Marks first.now × Marks second.now }
     ensures { result ≡ pair_mark (marks_only states.first first.now) (marks_only states.second second.now) state.0 }
 {
-    let pair = pair_of(states, state);
+    let counts = States {
+        first: states.first,
+        second: states.second,
+    };
+    let pair = pair_of(counts, state);
     mark_in::<First>(first, pair.first) & mark_in::<Second>(second, pair.second)
 }

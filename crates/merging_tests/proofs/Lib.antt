@@ -1,2 +1,3 @@
 -- What the tests of two types say.
 pub mod Tests
+pub mod Behind

@@ -51,3 +51,7 @@ small_before O counts p s =
     taken : (q : ℕ) → Dec (q < p) → count_of (take p counts) q ≤ 2
     taken q (yes h) = rw (get_or-take p counts q 0 h) (s.count≤ q)
     taken q (no h) = let end : length (take p counts) ≤ q = omega (arith, length-take p counts) in rw (get_or_past (take p counts) q 0 end) (omega arith)
+
+-- at most four states: a power to the third is at most 64
+power_small : (O n : ℕ) → O ≤ 4 → n ≤ 3 → O ^ n ≤ 64
+power_small O n o h = le_trans (pow-le-pow_left o n) (pow-le-pow_right {n = 4} (omega arith) h)

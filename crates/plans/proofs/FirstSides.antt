@@ -14,7 +14,7 @@ use Rattle.foundation.specs.Search.{first, first_at, first_none, first_cong}
 use Rattle.model.specs.Tables.{Rule, rule_at, rule_count}
 use Rattle.model.specs.Running.{fits, first_rule}
 use Rattle.model.proofs.Laws.Rules.{fits_both}
-use Rattle.plans.specs.Plans.{most_procedures, rule_symbols, most_nodes, entries, entry_of, side_at, SmallRules}
+use Rattle.plans.specs.Plans.{most_procedures, rule_symbols, most_nodes, entries, entry_of, side_at, SmallRules, Sides}
 
 module _ (rules : List ℕ) where
   -- the first such rule from k on
@@ -64,6 +64,9 @@ module _ (rules : List ℕ) where
             get_or-replicate entries (entry_of p s) most_nodes 0 (omega arith)
             ∙ sym (ap (side_at rules) (from_none p s) ∙ none_side);
       }
+
+  pub listed_all : (table : List ℕ) → Listed 0 table → Sides rules table
+  listed_all table l p s hp hs = l.entry p s hp hs ∙ ap (side_at rules) (from_zero p s)
 
   -- one rule more, before those that it has
   module _ (k : ℕ) (table : List ℕ) (h : k < rule_count rules) (small : SmallRules rules) (l : Listed (suc k) table) (r : Rule) (e : r ≡ rule_at rules k) where

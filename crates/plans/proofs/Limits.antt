@@ -11,6 +11,7 @@ use Rattle.foundation.specs.Tests.{choose}
 use Rattle.model.specs.Tables.{Transformation}
 use Rattle.model.specs.Running.{has_stays, most_calls}
 use Rattle.plans.specs.Plans.{flag_place, has_stay, plan_most}
+use borrow.Author.Tests.{eq-eqb, ne_eqb}
 
 module _ (plan : List ℕ) where
   pub most_bounded : plan_most plan ≤ 65536
@@ -28,3 +29,10 @@ module _ (plan : List ℕ) where
       cases : (b : Bool) → choose {A = ℕ} (eqb (bool_byte b) 1) 4096 65536 ≡ choose b 4096 65536
       cases true = refl
       cases false = refl
+
+module _ (plan : List ℕ) where
+  pub most_flagged : get_or plan flag_place 0 ≡ 1 → plan_most plan ≡ 4096
+  most_flagged e = rw (eq-eqb _ _ e)
+
+  pub most_not_flagged : (get_or plan flag_place 0 ≡ 1 → ⊥) → plan_most plan ≡ 65536
+  most_not_flagged ne = rw (ne_eqb _ _ ne)

@@ -12,7 +12,7 @@ use Rattle.model.specs.Running.{Work, made, refused, first_rule, seek_rule}
 use Rattle.model.proofs.Laws.Rules.{first_fits}
 use Rattle.model.proofs.Laws.Calling.{seek_root, seek_stay}
 use Rattle.std.specs.Prelude.{Some, None}
-use Rattle.plans.specs.Plans.{most_procedures, rule_symbols, most_nodes, plan_side, plan_own, plan_sought, Laid}
+use Rattle.plans.specs.Plans.{most_procedures, rule_symbols, most_nodes, plan_side, plan_own, plan_stay, plan_sought, plan_sought_number, Laid}
 
 module _ (plan : List ℕ) (p s : ℕ) where
   own_there : plan_side plan p s < most_nodes → plan_own plan p s ≡ Some (plan_side plan p s)
@@ -20,6 +20,12 @@ module _ (plan : List ℕ) (p s : ℕ) where
 
   own_none : most_nodes ≤ plan_side plan p s → plan_own plan p s ≡ None
   own_none h = rw (le-ltb (plan_side plan p s) most_nodes h)
+
+  pub own_sought : plan_side plan p s < most_nodes → plan_sought_number plan p s ≡ plan_side plan p s
+  own_sought h = rw (lt-ltb (plan_side plan p s) most_nodes h)
+
+  pub stay_sought : most_nodes ≤ plan_side plan p s → plan_sought_number plan p s ≡ plan_side plan p (plan_stay plan)
+  stay_sought h = rw (le-ltb (plan_side plan p s) most_nodes h)
 
 -- "13, no rule": neither one for the symbol nor a stay rule
 seek_none : (T : Transformation) (p s : ℕ) (w : Work) → rule_count T.rules ≤ first_rule T.rules p s → rule_count T.rules ≤ first_rule T.rules p T.symbols
@@ -96,3 +102,9 @@ module _ {T : Transformation} {numbers ends plan : List ℕ} (laid : Laid T numb
         own : Dec (rule_for s < rule_count T.rules) → seek_rule T p s w ≡ refused 13 p
         own (yes l) = absurd (cc (found, by_own l))
         own (no ne) = stay (omega arith) (dec_lt (rule_for T.symbols) (rule_count T.rules))
+
+module _ {T : Transformation} {numbers ends plan : List ℕ} (laid : Laid T numbers ends plan)
+    (small : (r : ℕ) → r < rule_count T.rules → (rule_at T.rules r).node < most_nodes) (few : T.symbols < rule_symbols)
+    (p : ℕ) (named : p < most_procedures) where
+  stay_side : plan_side plan p (plan_stay plan) ≡ plan_side plan p T.symbols
+  stay_side = ap (plan_side plan p) laid.stay

@@ -72,6 +72,14 @@ pub record SmallRules (rules : List ℕ) : Type 0 where
 abbrev pub has_stay : (stay : ℕ) (rules : List ℕ) → Bool
 has_stay S rules = ltb (first (λ r. eqb (rule_at rules r).symbol S) (rule_count rules)) (rule_count rules)
 
+-- whether a rule has the stay rules' symbol: 1 if one has
+abbrev pub stay_flag : (stay : ℕ) (rules : List ℕ) → ℕ
+stay_flag S rules = choose (ltb (first (λ r. eqb (rule_at rules r).symbol S) (rule_count rules)) (rule_count rules)) 1 0
+
+-- the transformation of these tables, over so many symbols
+abbrev pub transformation_of : (S : ℕ) (counts nodes rules : List ℕ) → Transformation
+transformation_of S counts nodes rules = record { symbols = S; counts = counts; nodes = nodes; rules = rules }
+
 -- what a plan has: node k
 abbrev pub plan_node : List ℕ → ℕ → Node
 plan_node plan k =
@@ -98,6 +106,10 @@ plan_stay plan = get_or plan stay_place 0
 -- the right side that a run takes: the symbol's first, and the first of a stay rule only if there is none
 abbrev pub plan_sought : List ℕ → (procedure symbol : ℕ) → Option ℕ
 plan_sought plan p s = option_or (plan_own plan p s) (plan_own plan p (plan_stay plan))
+
+-- the same as a number of the plan: that of the symbol where it is a node, else that of the stay rules, whether it is one or not
+abbrev pub plan_sought_number : List ℕ → (procedure symbol : ℕ) → ℕ
+plan_sought_number plan p s = choose (ltb (plan_side plan p s) most_nodes) (plan_side plan p s) (plan_side plan p (plan_stay plan))
 
 -- how many calls a run makes at most
 abbrev pub plan_most : List ℕ → ℕ

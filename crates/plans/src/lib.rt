@@ -8,7 +8,7 @@
 ghost use Rattle.std.specs.Prelude.{◌≡◌, ◌+◌, ◌*◌, ◌<◌, ◌≤◌, List, ℕ, length, get_or, replicate};
 ghost use Rattle.tables.specs.Handed.{handed};
 ghost use Rattle.tables.specs.Tuples.{node_of};
-ghost use Rattle.plans.specs.Plans.{most_procedures, rule_symbols, most_nodes, most_numbers, entries, entry_of, numbers_place, ends_place, plan_length, overlaid, Sides, SmallRules, has_stay, plan_node, plan_own, plan_stay, plan_sought, plan_most, Laid};
+ghost use Rattle.plans.specs.Plans.{most_procedures, rule_symbols, most_nodes, most_numbers, entries, entry_of, numbers_place, ends_place, plan_length, overlaid, Sides, SmallRules, has_stay, plan_node, plan_side, plan_stay, plan_sought, plan_sought_number, plan_most, Laid};
 
 use searching::first_where;
 use std::marker::Model;
@@ -19,7 +19,7 @@ const PROCEDURES: usize = 16;
 
 const RULE_SYMBOLS: usize = 17;
 
-const MOST_NODES: usize = 256;
+pub const MOST_NODES: usize = 256;
 
 const MOST_NUMBERS: usize = 1023;
 
@@ -40,18 +40,20 @@ const STAY_SYMBOL: usize = ENDS + MOST_NUMBERS;
 
 const STAYS: usize = STAY_SYMBOL + 1;
 
-const LENGTH: usize = STAYS + 1;
+pub const LENGTH: usize = STAYS + 1;
 
 // A plan, which clauses see as the list of its numbers.
-#[derive(Drop)]
+#[derive(Clone, Copy)]
 pub struct Plan {
-    numbers: [u16; LENGTH],
+    pub numbers: [u16; LENGTH],
 }
 
 impl Model for Plan {
     ghost Value = { List ℕ };
 
     ghost view = { λ plan. plan.numbers };
+
+    ghost inverse = { λ numbers. record { numbers = numbers } };
 }
 
 // Which entry a procedure and a symbol have.
@@ -84,12 +86,14 @@ fn set_sides(sides: &mut [u16], rules: &[u16])
     }
 }
 
-// Copies numbers into a table, from a place on.
+// Copies numbers into a table, from a place on, one by one: `copy_from_slice` would have the library for C need `memmove`.
 fn copy_in(table: &mut [u16; LENGTH], at: usize, from: &[u16])
     requires { at + length from.now ≤ plan_length }
     ensures { table.new ≡ overlaid table.old at from.now }
 {
-    table[at..at + from.len()].copy_from_slice(from);
+    for i in 0..from.len() {
+        table[at + i] = from[i];
+    }
 }
 
 impl Plan {
@@ -126,13 +130,12 @@ impl Plan {
         self.numbers[procedure.number()]
     }
 
-    // The right side of the first rule listed for a procedure and a symbol, if there is one.
-    fn side_of(&self, procedure: Procedure, symbol: Symbol) -> Option<usize>
+    // The right side of the first rule listed for a procedure and a symbol; 256 where there is none.
+    fn side_of(&self, procedure: Procedure, symbol: Symbol) -> usize
         requires { (procedure.0 < most_procedures) × (symbol.0 < rule_symbols) }
-        ensures { result ≡ plan_own self.now procedure.0 symbol.0 }
+        ensures { result ≡ plan_side self.now procedure.0 symbol.0 }
     {
-        let side = usize::from(self.numbers[SIDES + entry_of(procedure, symbol)]);
-        if side < MOST_NODES { Some(side) } else { None }
+        usize::from(self.numbers[SIDES + entry_of(procedure, symbol)])
     }
 
     // The symbol that stay rules have.
@@ -142,14 +145,27 @@ impl Plan {
         Symbol(self.numbers[STAY_SYMBOL])
     }
 
-    // The right side of the first rule for a procedure and a symbol, or of the procedure's first stay rule where there is none.
+    // The right side of the first rule for a procedure and a symbol, or of the procedure's first stay rule where there is none, as it
+    // stands in the plan: 256 where there is neither.
+    pub fn sought_number(&self, procedure: Procedure, symbol: Symbol) -> usize
+        requires { (procedure.0 < most_procedures) × (symbol.0 < rule_symbols) × (plan_stay self.now < rule_symbols) }
+        ensures { result ≡ plan_sought_number self.now procedure.0 symbol.0 }
+    {
+        let stay = self.stay_symbol();
+        let side = self.side_of(procedure, symbol);
+        if side < MOST_NODES {
+            return side;
+        }
+        self.side_of(procedure, stay)
+    }
+
+    // The same, if there is one.
     pub fn sought_side(&self, procedure: Procedure, symbol: Symbol) -> Option<usize>
         requires { (procedure.0 < most_procedures) × (symbol.0 < rule_symbols) × (plan_stay self.now < rule_symbols) }
         ensures { result ≡ plan_sought self.now procedure.0 symbol.0 }
     {
-        let stay = self.stay_symbol();
-        let own = self.side_of(procedure, symbol);
-        own.or_else(|| self.side_of(procedure, stay))
+        let side = self.sought_number(procedure, symbol);
+        if side < MOST_NODES { Some(side) } else { None }
     }
 
     // Node k.

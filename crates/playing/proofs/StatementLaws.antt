@@ -2,12 +2,13 @@
 use mathlib.Core.Path.{◌≡◌, refl, ◌∙◌}
 use mathlib.Core.List.{List}
 use Prim.Native.Nat.{ℕ, ◌+◌, ◌≤◌}
-use Rattle.std.specs.Prelude.{Option}
+use Rattle.std.specs.Prelude.{Option, None, Result, Ok, Err}
 use native.Mathlib.Omega.{arith}
 use lib.ListN.{length}
 use Rattle.model.specs.WritingOut.{writing_out}
-use Rattle.script.specs.Meaning.{State, Step, quiet, step, labelled, left_lines, written_text, untouched, most_numbers}
+use Rattle.script.specs.Meaning.{State, Step, quiet, step, step_read, labelled, left_lines, written_text, untouched, most_numbers}
 use Rattle.script.specs.declared.spans.Span.{Span}
+use Rattle.script.specs.declared.spans.Fault.{Fault}
 use Rattle.lexing.specs.declared.words.Size.{Size}
 use Rattle.lexing.specs.declared.words.Table.{Table}
 use Rattle.script.specs.declared.statements.Listed.{Listed}
@@ -94,3 +95,13 @@ module _ (label numbers rows words out text : List ℕ) (d : Desk) (o : InOrder 
       → Still label st values d p
   unfolding step
   plays_show values e shown fits = rw e (record { state = refl; text = shown (state_of label d numbers rows words); order = o; fits = fits })
+
+  -- nothing was read
+  abbrev Quiet : Result (Option Statement) Fault → List ℕ → Type 0
+  Quiet read values = Plays label label (step_read (state_of label d numbers rows words) text read values) d numbers rows words out printed.Nothing
+
+  pub plays_end : {read : Result (Option Statement) Fault} (values : List ℕ) → read ≡ Ok None → Quiet read values
+  plays_end values e = plays_quiet out (rw e) o
+
+  pub plays_fault : {read : Result (Option Statement) Fault} {f : Fault} (values : List ℕ) → read ≡ Err f → Quiet read values
+  plays_fault values e = plays_quiet out (rw e) o

@@ -21,6 +21,7 @@ use Rattle.script.specs.declared.spans.Fault.{Fault}
 use Rattle.script.specs.declared.spans.Expected.{Expected}
 use Rattle.script.specs.declared.spans.Expected.TheVariants as expected
 use Rattle.script.specs.declared.statements.Reading.{Reading}
+use Rattle.script.specs.declared.statements.Misread.{Misread}
 use Rattle.std.specs.Prelude.{Option, Some, None, Result, Ok, Err}
 use Rattle.playing.specs.declared.desks.Desk.{Desk}
 use Rattle.playing.specs.declared.showing.Printed.TheVariants as printed
@@ -36,7 +37,7 @@ use Rattle.playing.proofs.ReadLaws.{Known, sound}
 pub part_whole : (numbers : List ℕ) (used : ℕ) → take (length numbers - used) (drop used numbers) ≡ drop used numbers
 part_whole numbers used = take_all (length numbers - used) (drop used numbers) (rw (length-drop used numbers) (omega arith))
 
-pub read_back : (text : List ℕ) (cut : Bool) (at used : ℕ) (numbers : List ℕ) {r : Result (Option Reading) Fault} {part : List ℕ}
+pub read_back : (text : List ℕ) (cut : Bool) (at used : ℕ) (numbers : List ℕ) {r : Result (Option Reading) Misread} {part : List ℕ}
     → r ≡ (statement_at text cut (length (take (length numbers - used) (drop used numbers))) at).reading
     → part ≡ overwritten (statement_at text cut (length (take (length numbers - used) (drop used numbers))) at).values (take (length numbers - used) (drop used numbers))
     → (r ≡ (statement_at text cut (length numbers - used) at).reading)
@@ -122,7 +123,7 @@ module _ (text : List ℕ) (cut : Bool) (at : ℕ) (label : Option Span) (d : De
       ap (λ (k : ℕ). play_step text cut (played text cut n) before (statement_at text cut k at).values (statement_at text cut k at).reading) room
 
   -- what is printed where this is read
-  by_reading : (n : ℕ) {r : Result (Option Reading) Fault} → r ≡ found.reading
+  by_reading : (n : ℕ) {r : Result (Option Reading) Misread} → r ≡ found.reading
       → played text cut (suc n) before at ≡ play_step text cut (played text cut n) before found.values r
   by_reading n er = unfolds n ∙ ap (play_step text cut (played text cut n) before found.values) (sym er)
 
@@ -176,7 +177,7 @@ module _ (text : List ℕ) (cut : Bool) (at : ℕ) (label : Option Span) (d : De
   turn_end er fit = record { plays = λ n. by_reading n er; order = o; labelled = fit; fits = tt }
 
   -- there is a fault
-  pub turn_fault : {f : Fault} {place : ℕ} {numbers₂ rows₂ words₂ out₂ : List ℕ} → Err f ≡ found.reading → take place out₂ ≡ fault_line text f → place ≤ length out₂
+  pub turn_fault : {m : Misread} {place : ℕ} {numbers₂ rows₂ words₂ out₂ : List ℕ} → Err m ≡ found.reading → take place out₂ ≡ fault_line text m.fault → place ≤ length out₂
       → LabelFits label (length text)
       → Turns text cut at label before (record { done = done label d (printed.Bare place); next = None }) numbers₂ rows₂ words₂ out₂
   turn_fault {place = place} {out₂ = out₂} er shown fits fit =

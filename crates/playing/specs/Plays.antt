@@ -1,10 +1,11 @@
 -- Plays: a statement is done. The desk and the buffers stand for the state behind the definition's step, and what is
 -- printed is the step's text.
-use Rattle.std.specs.Prelude.{◌≡◌, List, ℕ, ◌≤◌, length, Option, Some}
+use Rattle.std.specs.Prelude.{◌≡◌, List, ℕ, ◌≤◌, length, Option, Some, None, Result, Ok, Err}
 use Rattle.script.specs.Meaning.{Step}
 use Rattle.script.specs.declared.statements.Statement.{Statement}
 use Rattle.script.specs.declared.statements.Statement.TheVariants as statement
 use Rattle.script.specs.declared.spans.Span.{Span}
+use Rattle.script.specs.declared.spans.Fault.{Fault}
 use Rattle.playing.specs.declared.desks.Desk.{Desk}
 use Rattle.playing.specs.declared.answering.Done.{Done}
 use Rattle.playing.specs.declared.showing.Printed.{Printed}
@@ -47,3 +48,14 @@ label_after statement.Admit l = l
 label_after (statement.Check limit) l = l
 label_after (statement.Write row room) l = l
 label_after statement.Show l = l
+
+-- and of what was read, which may be no statement
+abbrev pub count_read : Result (Option Statement) Fault → ℕ
+count_read (Ok (Some s)) = count_of s
+count_read (Ok None) = 0
+count_read (Err f) = 0
+
+abbrev pub label_read : Result (Option Statement) Fault → Option Span → Option Span
+label_read (Ok (Some s)) l = label_after s l
+label_read (Ok None) l = l
+label_read (Err f) l = l

@@ -12,8 +12,8 @@ use crate::desks::Desk;
 use crate::showing::Printed;
 use crate::statements::do_statement;
 use crate::whole_lines::fault_line;
-use script::spans::{Fault, Span};
-use script::statements::{Reading, read_statement};
+use script::spans::Span;
+use script::statements::{Misread, Reading, read_statement};
 
 // Reads the statement at a place; the numbers of its list become the free ones.
 fn read_next(
@@ -22,7 +22,7 @@ fn read_next(
     at: usize,
     used: usize,
     numbers: &mut [u16],
-) -> Result<Option<Reading>, Fault>
+) -> Result<Option<Reading>, Misread>
     requires { used ≤ length numbers.old }
     ensures value { result ≡ (statement_at text.now cut (length numbers.old - used) at).reading }
     ensures numbers_after { numbers.new ≡ take used numbers.old ++ overwritten (statement_at text.now cut (length numbers.old - used) at).values (drop used numbers.old) }
@@ -54,15 +54,10 @@ pub fn play_turn(
     ensures { Turns text.now cut at label (state_of (label_of text.now label) desk numbers.old rows.old words.old)
         result numbers.new rows.new words.new out.new }
 {
-    let quiet = Done {
-        label,
-        desk,
-        printed: Printed::Nothing,
-    };
     match read_next(text, cut, at, desk.used, numbers) {
         Ok(Some(reading)) => {
             let done = do_statement(
-                reading.statement,
+                Ok(Some(reading.statement)),
                 label,
                 desk,
                 numbers,
@@ -77,12 +72,20 @@ pub fn play_turn(
             }
         }
         Ok(None) => Turn {
-            done: quiet,
+            done: Done {
+                label,
+                desk,
+                printed: Printed::Nothing,
+            },
             next: None,
         },
-        Err(fault) => {
+        Err(Misread { fault, .. }) => {
             let printed = Printed::Bare(fault_line(out, text, fault));
-            let done = Done { printed, ..quiet };
+            let done = Done {
+                label,
+                desk,
+                printed,
+            };
             Turn { done, next: None }
         }
     }

@@ -15,9 +15,9 @@ use Rattle.kind_words.specs.Kind.{list_of, ListInside, kind_form}
 use Rattle.kind_words.specs.Fits as fits
 use Rattle.kind_words.specs.Fits.{NodesFit, RulesIn, RowsIn}
 use Rattle.prepared.specs.declared.Parts.{Parts}
-use Rattle.prepared.specs.Parts.{contract_in, lists_in, Ready}
+use Rattle.prepared.specs.Parts.{contract_in, lists_in, IsReady}
 
-module _ {p : Parts} {table : List ℕ} (ready : Ready p table) where
+module _ {p : Parts} {table : List ℕ} (ready : IsReady p table) where
   abbrev C : Contract
   C = contract_in p table
 

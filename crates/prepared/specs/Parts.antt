@@ -34,9 +34,22 @@ lists_in p table = part table p.rules (length table)
 abbrev pub rounds_of : Transformation → ℕ
 rounds_of T = choose (has_stays T) most_facts 0
 
--- a table that is prepared for the contract in it. What preparation makes holds in some way (which numbers stand where on a list is told by
--- more than one proof), so that a table is prepared in one way at most
+-- a table that is prepared for the contract in it
 pub record Ready (p : Parts) (table : List ℕ) : Type 0 where
+  pub to_rows : p.counts ≤ p.rows
+  pub to_inputs : p.rows ≤ p.inputs
+  pub to_table : p.inputs ≤ p.table
+  pub to_outputs : p.table ≤ p.outputs
+  pub to_nodes : p.outputs ≤ p.nodes
+  pub to_rules : p.nodes ≤ p.rules
+  pub inside : p.rules ≤ length table
+  pub prepared : Kind.Prepared (contract_in p table) (layout_of p.layout) p.offsets (lists_in p table)
+  pub rounds : p.rounds ≡ rounds_of (contract_in p table).transformation
+  pub verdicts : VerdictsOf (contract_in p table).input.marks (contract_in p table).output.marks p.verdicts
+
+-- the same, of which a table has one proof at most: what preparation makes holds in some way (which numbers stand where on a list is told by
+-- more than one proof)
+pub record IsReady (p : Parts) (table : List ℕ) : Type 0 where
   pub to_rows : p.counts ≤ p.rows
   pub to_inputs : p.rows ≤ p.inputs
   pub to_table : p.inputs ≤ p.table
@@ -48,6 +61,22 @@ pub record Ready (p : Parts) (table : List ℕ) : Type 0 where
   pub prepared : ∥ Kind.Prepared (contract_in p table) (layout_of p.layout) p.offsets (lists_in p table) ∥₁
   pub rounds : p.rounds ≡ rounds_of (contract_in p table).transformation
   pub verdicts : VerdictsOf (contract_in p table).input.marks (contract_in p table).output.marks p.verdicts
+
+pub is_ready : {p : Parts} {table : List ℕ} → Ready p table → IsReady p table
+is_ready ready =
+    record {
+      to_rows = ready.to_rows;
+      to_inputs = ready.to_inputs;
+      to_table = ready.to_table;
+      to_outputs = ready.to_outputs;
+      to_nodes = ready.to_nodes;
+      to_rules = ready.to_rules;
+      inside = ready.inside;
+      established = ready.prepared.established;
+      prepared = ∣ ready.prepared ∣₁;
+      rounds = ready.rounds;
+      verdicts = ready.verdicts;
+    }
 
 -- a node is good in one way at most: its tag and its name tell which
 node_prop : {S : ℕ} {counts : List ℕ} {k : ℕ} {n : Node} → IsProp (GoodNode S counts k n)
@@ -69,5 +98,5 @@ node_prop (good_call a b c d e) (good_parameter a' b' c') = absurd (omega arith)
 node_prop (good_call a b c d e) (good_nothing a' b') = absurd (omega arith)
 node_prop (good_call a b c d e) (good_symbol a' b' c' d' e') = absurd (omega arith)
 
-pub Ready-prop : (p : Parts) (table : List ℕ) → IsProp (Ready p table)
-Ready-prop p table = hlevel (node_prop, props)
+pub IsReady-prop : (p : Parts) (table : List ℕ) → IsProp (IsReady p table)
+IsReady-prop p table = hlevel (node_prop, props)

@@ -3,7 +3,7 @@
 // breaking kind.
 #![tactic(auto)]
 
-ghost use Rattle.prepared.specs.Parts.{Ready, Ready-prop};
+ghost use Rattle.prepared.specs.Parts.{IsReady, IsReady-prop};
 
 use breaking::Verdicts;
 use chains::{list_of, rows_from};
@@ -36,7 +36,7 @@ pub struct Parts {
 pub struct Prepared<'a> {
     pub parts: Parts,
     pub table: &'a [u16],
-    pub ghost ready: { Ready parts table.now } by { Ready-prop parts table.now },
+    pub ghost ready: { IsReady parts table.now } by { IsReady-prop parts table.now },
 }
 
 impl<'a> Prepared<'a> {

@@ -1,4 +1,4 @@
-// Preparing an admitted contract: its tables and what is made of them once, in one table.
+// Preparing an admitted contract: its tables and what is made of them once, in one table, with the masks of its symbols beside it.
 #![tactic(auto)]
 
 ghost use Rattle.std.specs.Prelude.{◌≡◌, ◌+◌, ◌<◌, ◌≤◌, length};
@@ -6,13 +6,13 @@ ghost use Rattle.model.proofs.Laws.Established.{Established};
 ghost use Rattle.tables.specs.Handed.{handed};
 ghost use Rattle.kind_words.specs.Sizes.{rule_symbols, next_rules};
 ghost use Rattle.kind_words.specs.Kind.{RulesChained};
-ghost use Rattle.prepared.specs.Contract.{contract_of};
-ghost use Rattle.preparing.specs.Packing.{rounds_by, Appended, Packed, LaidOut, packed_length, prepared_length, Short};
+ghost use Rattle.preparing.specs.Packing.{rounds_by, Appended, Packed, LaidOut, Prepares, packed_length, prepared_length, Short};
 
 use breaking::verdicts_of;
 use chains::has_rules;
 use lanes::entry_of;
 use layouts::{layout_of, offsets_of};
+use masks::{Masked, with_masks};
 use prepared::{Parts, Prepared};
 use reaching::{fill_lists, lists_length};
 use tables::{ContractTables, Symbol};
@@ -34,9 +34,10 @@ fn append(table: &mut [u16], at: usize, from: &[u16]) -> usize
     requires { at + length from.now ≤ length table.old }
     ensures { Appended table.old at from.now table.new result }
 {
-    let end = at + from.len();
-    table[at..end].copy_from_slice(from);
-    end
+    for i in 0..from.len() {
+        table[at + i] = from[i];
+    }
+    at + from.len()
 }
 
 // Copies the tables of a contract to the front of a table, one behind another, and returns where each ends.
@@ -97,7 +98,7 @@ fn stay_rounds(rules: &[u16], lists: &[u16], stay: Symbol) -> usize
 }
 
 // Lays out an admitted contract in a table: its tables, and behind them the lists by symbol.
-fn lay_out(contract: &ContractTables, table: &mut [u16]) -> Parts
+pub fn lay_out(contract: &ContractTables, table: &mut [u16]) -> Parts
     requires { Established (handed contract.now) × (prepared_length (handed contract.now) ≤ length table.old) × (length table.old < 65536) }
     ensures { LaidOut (handed contract.now) result table.new }
 {
@@ -131,11 +132,21 @@ fn lay_out(contract: &ContractTables, table: &mut [u16]) -> Parts
     }
 }
 
-// Prepares an admitted contract, with room for its table.
-pub fn prepare<'a>(contract: &ContractTables, table: &'a mut [u16]) -> Prepared<'a>
+// Prepares the table of an admitted contract, with room for it, and makes no masks.
+#[tactic(auto, using(prepared::specs::Parts::is_ready))]
+pub fn prepare_table<'a>(contract: &ContractTables, table: &'a mut [u16]) -> Prepared<'a>
     requires { Established (handed contract.now) × (prepared_length (handed contract.now) ≤ length table.old) × (length table.old < 65536) }
-    ensures { contract_of result ≡ handed contract.now }
+    ensures { LaidOut (handed contract.now) result.parts result.table.now }
 {
     let parts = lay_out(contract, table);
     Prepared { parts, table }
+}
+
+// Prepares an admitted contract, with room for its table: the table, and the masks of what each symbol sees.
+#[tactic(auto, using(crate::specs::Packing::with_masks))]
+pub fn prepare<'a>(contract: &ContractTables, table: &'a mut [u16]) -> Masked<'a>
+    requires { Established (handed contract.now) × (prepared_length (handed contract.now) ≤ length table.old) × (length table.old < 65536) }
+    ensures { Prepares (handed contract.now) result.prepared.parts result.prepared.table.now result.left_masks result.right_masks }
+{
+    with_masks(prepare_table(contract, table))
 }

@@ -1,3 +1,4 @@
 -- Laws that the functions' proofs cite.
 pub mod Columns
 pub mod Texts
+pub mod Runs

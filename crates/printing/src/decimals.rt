@@ -5,9 +5,9 @@ ghost use Rattle.printing.specs.Decimals.{decimal};
 // Digits at the end of twenty bytes, and the place of the first. Memory is fixed, so they stand in an array that fits the longest number.
 #[derive(Clone, Copy)]
 pub struct Digits {
-    bytes: [u8; 20],
-    first: usize,
-    ghost within: { first < 20 },
+    pub bytes: [u8; 20],
+    pub first: usize,
+    pub ghost within: { first < 20 },
 }
 
 impl Digits {

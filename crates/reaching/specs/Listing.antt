@@ -1,5 +1,5 @@
 -- The marked nodes on a list, in ascending order: whatever is marked below a node of the list stands before it.
-use Rattle.std.specs.Prelude.{◌≡◌, refl, List, ℕ, suc, ◌+◌, ◌*◌, ◌-◌, ◌<◌, ◌≤◌, length, get_or, set}
+use Rattle.std.specs.Prelude.{◌≡◌, refl, List, ℕ, suc, ◌+◌, ◌*◌, ◌-◌, ◌<◌, ◌≤◌, length, get_or, set, Bool, true, false, eqb}
 use Rattle.std.proofs.Common.{ap, subst, sym, ◌∙◌, arith, eq-eqb, ne_eqb, length-set, get_or-set_same, get_or-set_other}
 use Rattle.std.proofs.Math.Decide.{ℕ_discrete}
 use Rattle.model.specs.Tables.{input_row, input_row_count, node_count, rule_at, rule_count}
@@ -10,6 +10,7 @@ use Rattle.kind_words.specs.Chains.{chained_same}
 use Rattle.kind_words.specs.Kind.{listed, list_length, list_of, ListInside, with_list, list_length_lem, list_at, ListsFor, RulesChained}
 use Rattle.chains.specs.Chaining.{Chaining}
 use Rattle.reaching.specs.Marks.{Marked, counted, Closed, RulesMarked, RulesGood, first_smaller, second_smaller}
+use Rattle.foundation.specs.Tests.{choose}
 
 -- place i of a list that starts at a place
 abbrev pub from : List ℕ → ℕ → ℕ → ℕ
@@ -24,6 +25,18 @@ pub record Listing (marks before reached : List ℕ) (start n k : ℕ) : Type 0 
   pub all : (m : ℕ) → m < n → Marked marks m → Before (from reached start) k m
   pub ascending : (i : ℕ) → i < k → (m : ℕ) → m < from reached start i → Marked marks m → Before (from reached start) i m
   pub kept : (j : ℕ) → j < start → get_or reached j 0 ≡ get_or before j 0
+
+pub listing_none : (marks reached : List ℕ) (start : ℕ) → Listing marks reached reached start 0 0
+listing_none marks reached start =
+    record {
+      long = refl;
+      few = omega arith;
+      below = λ i h. absurd (omega arith);
+      is_marked = λ i h. absurd (omega arith);
+      all = λ m h. absurd (omega arith);
+      ascending = λ i h. absurd (omega arith);
+      kept = λ j h. refl;
+    }
 
 module _ (marks before reached : List ℕ) (start n k : ℕ) (h : Listing marks before reached start n k) (room : start + k < length before) where
   abbrev next : List ℕ
@@ -135,6 +148,26 @@ symbol_listed counts nodes rules s start rule_marks marks before lists n good ru
       kept = h.kept;
     }
 
+-- a symbol without rules
+pub none_listed : (counts nodes rules : List ℕ) (s start : ℕ) (lists : List ℕ) → RulesChained rules lists → s < rule_symbols
+    → (get_or lists (first_rules + s) 0 < rule_count rules → ⊥)
+    → SymbolListed counts nodes rules s start lists lists 0
+none_listed counts nodes rules s start lists chained small none =
+    record {
+      long = refl;
+      few = omega arith;
+      list = record { is_node = λ i l. absurd (omega arith); after = λ i l. absurd (omega arith) };
+      on_list = λ r l e. absurd ((chained.first s small).none r (omega arith) (omega arith) e);
+      kept = λ j l. refl;
+    }
+
+pub counted_small : (mark : ℕ) → counted mark ≤ 1
+counted_small mark = go (eqb mark 1)
+  where
+    go : (b : Bool) → choose b 1 0 ≤ 1
+    go true = omega arith
+    go false = omega arith
+
 -- the lists of the symbols below s, one after another from a place on; what stands before that place, from the first rules on, is kept
 pub record ListedTo (counts nodes rules : List ℕ) (start s end : ℕ) (before lists : List ℕ) : Type 0 where
   pub long : length lists ≡ length before
@@ -166,6 +199,11 @@ rest_room s end k room small h =
     let e : rule_symbols - s ≡ suc (rule_symbols - (s + 1)) = omega arith in
     let r : end + suc (rule_symbols - (s + 1)) * k ≤ room = rw e at h in
     omega arith
+
+-- there is room for one more list
+pub list_room : (counts nodes rules : List ℕ) (start s end : ℕ) (before lists : List ℕ) → ListedTo counts nodes rules start s end before lists → s < rule_symbols
+    → end + node_count nodes ≤ length lists
+list_room counts nodes rules start s end before lists h small = omega (arith, rest_room s end (node_count nodes) (length before) small h.room, h.long)
 
 -- one symbol more
 module _ (counts nodes rules : List ℕ) (start s end : ℕ) (before lists lists' : List ℕ) (n : ℕ) (h : ListedTo counts nodes rules start s end before lists)

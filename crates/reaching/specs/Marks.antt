@@ -112,6 +112,11 @@ rule_marked rules s r k marks more h small e next =
     go i l t (no ne) (yes b) = mark_grows true marks (rule_at rules r).node (rule_at rules i).node (h.marked i b t)
     go i l t (no ne) (no nb) = absurd (next.none i (omega arith) l t)
 
+-- up to the first rule of a symbol nothing is to be marked
+pub no_rules_marked : (rules : List ℕ) (s k : ℕ) (marks : List ℕ) → NextFrom (λ i. (rule_at rules i).symbol) (rule_count rules) s 0 k
+    → RulesMarked rules s k marks
+no_rules_marked rules s k marks next = record { marked = λ r h e. absurd (next.none r (omega arith) h e) }
+
 -- a node refers to smaller nodes
 module _ {counts nodes : List ℕ} (good : GoodNodes counts nodes) (n : ℕ) (hn : n < node_count nodes) where
   abbrev node : Node
@@ -196,6 +201,9 @@ module _ {counts nodes : List ℕ} (good : GoodNodes counts nodes) (n : ℕ) (hn
       go (no u) =
           rw (e, ne_eqb (get_or marks n 0) 1 u)
           (record { long = h.long; grows = h.grows; referred = λ m l hm t. unmarked u m l hm t (ℕ_discrete m n) })
+
+pub closed_none : (counts nodes : List ℕ) (n : ℕ) (marks : List ℕ) → node_count nodes ≤ n → node_count nodes ≤ length marks → Closed counts nodes n marks marks
+closed_none counts nodes n marks h long = record { long = long; grows = λ j m. m; referred = λ m l hm t. absurd (omega arith) }
 
 module _ (counts nodes marks : List ℕ) (n : ℕ) where
   -- a marked node, of k references

@@ -12,7 +12,7 @@ ghost use Rattle.reading.specs.Answers.{leading_of, fault_verdict, reading_verdi
 ghost use Rattle.reading.specs.Ends.{EndsFrom};
 
 use answers::DocumentFault;
-use tables::{Symbol, is_none_of};
+use tables::{Symbol, symbol_wrong};
 
 // The most numbers of a document.
 const MOST_NUMBERS: usize = 1023;
@@ -35,7 +35,7 @@ pub fn leading_tree(symbols: usize, numbers: &[u16]) -> Result<usize, usize>
     let mut due = 1;
     for (at, &number) in numbers.iter().enumerate() {
         let symbol = Symbol(number);
-        if is_none_of::<Symbol>(symbols, symbol) {
+        if symbol_wrong(symbols, symbol) {
             return Err(at);
         }
         due = due_after(due, symbol);
@@ -71,7 +71,8 @@ pub fn read(symbols: usize, numbers: &[u16]) -> Result<usize, DocumentFault>
 {
     let length = numbers.len();
     let end = looked_at(length);
-    leading_tree(symbols, &numbers[..end]).map_err(|place| fault_of(length, place))
+    let taken = leading_tree(symbols, &numbers[..end]).map_err(|place| fault_of(length, place))?;
+    Ok(taken)
 }
 
 // Where the right child of place i starts: where the left child ends, which starts at the next place.

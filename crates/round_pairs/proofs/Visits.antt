@@ -1,9 +1,9 @@
 -- What the loops' functions need where they stand: room in the buffers, and what a visit comes to.
-use mathlib.Core.Path.{◌≡◌, ap₂, ◌∙◌}
+use mathlib.Core.Path.{◌≡◌, ap₂, ◌∙◌, subst}
 use mathlib.Core.List.{List, [], ◌∷◌, ◌++◌}
-use Prim.Native.Nat.{ℕ, suc, ◌+◌, ◌*◌, ◌≤◌, ◌<◌}
+use Prim.Native.Nat.{ℕ, suc, ◌+◌, ◌*◌, ◌≤◌, ◌<◌, ◌^◌}
 use native.Mathlib.Omega.{arith}
-use lib.ListN.{length, take}
+use lib.ListN.{length, take, get_or}
 use Rattle.std.specs.Prelude.{Result}
 use Rattle.model.specs.Tables.{Contract}
 use Rattle.model.specs.Kinds.{next_kind}
@@ -20,6 +20,8 @@ use Rattle.kind_lists.specs.declared.Stop.{Stop}
 use Rattle.kind_lists.proofs.Stops.{kept_lengths}
 use Rattle.round_pairs.specs.Steps.{At, list_at, visit}
 use Rattle.round_pairs.specs.declared.Round.{Round}
+use Rattle.kind_words.specs.Blocks.{Words}
+use Rattle.kind_slots.proofs.Same.{padded_small}
 
 -- a list that is held leaves room
 pub room_of : {C : Contract} {limit n : ℕ} {slots rows words : List ℕ} (list : List (ListedKind C)) → Unbroken C limit n slots rows words list → Room limit n rows words
@@ -63,3 +65,13 @@ pub at_lengths : (C : Contract) (r : Round) (s i j : ℕ) (slots rows words : Li
     → (length rows ≡ 3 * r.limit) × (length words ≡ 5 * r.limit)
 at_lengths C r s i j slots rows words p o =
     kept_lengths C (λ n. At C r s i j n slots rows words) r.limit (suc r.height) rows words (λ n at. (at.list.holds.row_room, at.list.holds.word_room)) p o
+
+-- words read from a buffer of 64-bit words
+pub padded_words : (words : List ℕ) (j : ℕ) (kind : List ℕ) → kind ≡ padded_kind words j → ((k : ℕ) → get_or words k 0 < 2 ^ 64) → Words kind
+padded_words words j kind e h k = rw e (padded_small words h j k)
+
+-- the loops stand at the same right row under another name
+pub at_right : {C : Contract} {r : Round} {s i j n : ℕ} {slots rows words : List ℕ} (k : ℕ) → j ≡ k
+    → At C r s i j n slots rows words → At C r s i k n slots rows words
+at_right {C} {r} {s} {i} {n = n} {slots = slots} {rows = rows} {words = words} k e at =
+    subst (λ (x : ℕ). At C r s i x n slots rows words) e at

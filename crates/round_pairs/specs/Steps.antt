@@ -1,17 +1,17 @@
 -- Where the loops of a round stand, and what each step does: a visited pair is one combination of the round, rows passed
 -- over are a stretch of combinations that add nothing.
-use Rattle.std.specs.Prelude.{◌≡◌, refl, List, [], ◌∷◌, ◌++◌, Bool, true, false, ℕ, suc, ◌+◌, ◌≤◌, ◌<◌, ltb, length, get_or, Result}
-use Rattle.std.proofs.Common.{ap, subst, sym, ◌∙◌, add-one, arith, ltb-true}
+use Rattle.std.specs.Prelude.{◌≡◌, refl, List, [], ◌∷◌, ◌++◌, Bool, true, false, ℕ, suc, ◌+◌, ◌≤◌, ◌<◌, ltb, length, get_or, Result, zero, ◌-◌}
+use Rattle.std.proofs.Common.{ap, subst, sym, ◌∙◌, add-one, arith, ltb-true, zero-add, suc-add}
 use Rattle.foundation.specs.Tests.{choose}
 use Rattle.foundation.specs.Words.{bit}
 use Rattle.model.specs.Tables.{Contract}
 use Rattle.model.specs.Kinds.{next_kind}
-use Rattle.model.specs.Rounds.{kind_automaton, ListedKind, kind_at, combinations, round_to, rounds}
+use Rattle.model.specs.Rounds.{kind_automaton, ListedKind, kind_at, combinations, round_to, rounds, TreeAutomaton, Listed}
 use Rattle.model.proofs.Laws.Established.{Established}
 use Rattle.model.proofs.Rounds.Growth.{Begins, begins_length, begins_state, middle_begins, middle_beginning, rows_begin}
 use Rattle.model.proofs.Rounds.Places.{place, place_next_left, place_next_symbol, place_below}
-use Rattle.model.proofs.Rounds.Covering.{HasState, has_later, kinds_decided}
-use Rattle.model.proofs.Rounds.Skipping.{step, skip_pair, skip_right, skip_left, same_left_listed, same_right_listed}
+use Rattle.model.proofs.Rounds.Covering.{HasState, has_later, kinds_decided, Decides}
+use Rattle.model.proofs.Rounds.Skipping.{step, skip_pair, skip_right, skip_left, same_left_listed, same_right_listed, PairListed}
 use Rattle.model.proofs.Rounds.Buffers.{FiveWords, beginning_five, length_next_kind}
 use Rattle.breaking.specs.Verdicts.{VerdictsOf}
 use Rattle.breaking.specs.declared.Verdicts.{Verdicts}
@@ -22,6 +22,25 @@ use Rattle.kind_lists.specs.Outcomes.{Unbroken, Outcome, outcome_map}
 use Rattle.kind_lists.specs.Offers.{offered}
 use Rattle.kind_lists.specs.declared.Stop.{Stop}
 use Rattle.round_pairs.specs.declared.Round.{Round}
+use Rattle.row_marks.specs.Marks.{NextMarked}
+
+module _ (A : TreeAutomaton) (decides : Decides A) where
+  lefts_after : (rows : List (Listed A)) (s i d : ℕ) → 1 ≤ s → d + i ≤ length rows
+      → ((k m : ℕ) → i ≤ k → k < d + i → m < length rows → PairListed A rows s k m)
+      → round_to A rows (place (length rows) s (d + i) 0) ≡ round_to A rows (place (length rows) s i 0)
+  lefts_after rows s i zero h hi listed = rw zero-add
+  lefts_after rows s i (suc d) h hi listed =
+      rw suc-add
+      (skip_left A decides rows s (d + i) h (omega arith) (λ m l. listed (d + i) m (omega arith) (omega arith) l)
+      ∙ lefts_after rows s i d h (omega arith) (λ k m p q l. listed k m p (omega arith) l))
+
+  -- the left rows from i to before k, all passed over
+  skip_lefts : (rows : List (Listed A)) (s i k : ℕ) → 1 ≤ s → i ≤ k → k ≤ length rows
+      → ((l m : ℕ) → i ≤ l → l < k → m < length rows → PairListed A rows s l m)
+      → round_to A rows (place (length rows) s k 0) ≡ round_to A rows (place (length rows) s i 0)
+  skip_lefts rows s i k h ik hk listed =
+      let q : (k - i) + i ≡ k = omega arith in
+      rw q at (lefts_after rows s i (k - i) h (omega arith) (λ l m p r b. listed l m p (omega arith) b))
 
 module _ (C : Contract) where
   -- a row makes the same kinds as an earlier one, on the left or on the right, in every list that has it
@@ -103,6 +122,29 @@ module _ (C : Contract) where
         (rw (z, add-one i)
         (skip_left (kind_automaton C) (kinds_decided C) stood s i at.symbol (omega arith)
         (same_left_listed (kind_automaton C) (kinds_decided C) stood s i e at.symbol le (omega arith) (q r.height (omega arith)))))
+
+    -- right rows without their mark are passed over
+    pub pass_rights : {rights : List ℕ} → RightsMarked r.stood rights → s < C.transformation.symbols → i < r.stood
+        → {k : ℕ} → NextMarked rights s j r.stood k → At r s i k n slots rows words
+    pass_rights marks h_s hi {k} m =
+        let counted = at.standing.counted in
+        moved s i k at.symbol
+        (skip_right (kind_automaton C) (kinds_decided C) stood s i j k at.symbol (omega arith) m.after (omega (arith, m.within))
+        (λ x from below.
+        let (e, le, q) = marks.same s x at.symbol h_s (omega (arith, m.within)) (m.passed x from below) in
+        same_right_listed (kind_automaton C) (kinds_decided C) stood s x e at.symbol le (omega (arith, m.within)) (q r.height (omega (arith, m.within))) i (omega arith)))
+
+    -- left rows without their mark are passed over whole
+    pub pass_lefts : {lefts : List ℕ} → LeftsMarked r.stood lefts → j ≡ 0 → s < C.transformation.symbols
+        → {k : ℕ} → NextMarked lefts s i r.stood k → At r s k 0 n slots rows words
+    pass_lefts marks z h_s {k} m =
+        let counted = at.standing.counted in
+        moved s k 0 at.symbol
+        (rw z
+        (skip_lefts (kind_automaton C) (kinds_decided C) stood s i k at.symbol m.after (omega (arith, m.within))
+        (λ x y from below hy.
+        let (e, le, q) = marks.same s x at.symbol h_s (omega (arith, m.within)) (m.passed x from below) in
+        same_left_listed (kind_automaton C) (kinds_decided C) stood s x e at.symbol le (omega (arith, m.within)) (q r.height (omega (arith, m.within))) y hy)))
 
     -- pairs of rows that stood in the round before are passed over
     pub pass_old : j ≡ 0 → s < C.transformation.symbols → i < r.before → At r s i r.before n slots rows words

@@ -48,3 +48,10 @@ pub record MarkedFrom (words masks : List ℕ) (symbols before stood : ℕ) (fir
   pub long : length marked ≡ 512
   pub kept : (j : ℕ) → j < before → get_or marked j 0 ≡ get_or firsts j 0
   pub marks : (j : ℕ) → before ≤ j → j < stood → MarksOf words masks symbols j (get_or marked j 0)
+
+-- the first row from a row on that is marked for symbol s, below `stood`, or `stood`
+pub record NextMarked (firsts : List ℕ) (s from stood r : ℕ) : Type 0 where
+  pub after : from ≤ r
+  pub within : r ≤ stood
+  pub passed : (i : ℕ) → from ≤ i → i < r → bit (get_or firsts i 0) s ≡ false
+  pub marked : r < stood → bit (get_or firsts r 0) s ≡ true

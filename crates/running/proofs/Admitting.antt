@@ -19,7 +19,7 @@ use Rattle.answers.specs.declared.ContractFault.{ContractFault}
 use Rattle.answers.specs.Numbers.{contract_refusal, document_refusal}
 use Rattle.model.proofs.Laws.Documents.{Document, some_number}
 use Rattle.model.proofs.Laws.Established.{Established}
-use Rattle.model.proofs.Laws.Answers.{refuse_if_passed, then_passed, given_stopped}
+use Rattle.model.proofs.Laws.Answers.{refuse_if_passed, then_fine, then_passed, given_stopped}
 use Rattle.model.proofs.Laws.Admitted.{established, admit_fine}
 use Rattle.answers.proofs.Answered.{refused_as}
 use Rattle.reading.specs.Answers.{fault_verdict, fault_given}
@@ -38,6 +38,10 @@ read_document S numbers known high =
 
 -- what is said before the work: the buffer is refused, the document is, or neither
 module _ (T : Transformation) (numbers buffer : List ℕ) where
+  -- where nothing is refused before the work, neither is
+  both_fine : before_work T.symbols numbers (length buffer) ≡ fine → (refuse_if (rows_wrong (length buffer)) 9 0 ≡ fine) × (leading_verdict T.symbols numbers ≡ fine)
+  both_fine passed = then_fine _ _ passed
+
   pub buffer_refused : rows_wrong (length buffer) ≡ true → EndsWith (after_admission T numbers buffer) (refusal 9 0) buffer
   unfolding after_admission given refuse_if ◌then◌
   buffer_refused wrong = rw (after_admission, wrong) (record { answered = refl; left = refl })

@@ -1,11 +1,11 @@
 -- A row added behind the rows used: the buffer after three stores, and the step that it is; and a buffer that is cleared from a place on.
-use mathlib.Core.Path.{◌≡◌, ap, ◌∙◌}
+use mathlib.Core.Path.{◌≡◌, ap, ◌∙◌, sym}
 use mathlib.Core.List.{List, [], ◌∷◌, ◌++◌, append_assoc}
-use Prim.Native.Nat.{ℕ, suc, ◌+◌, ◌*◌, ◌-◌, ◌<◌, ◌≤◌, min}
+use Prim.Native.Nat.{ℕ, suc, ◌+◌, ◌*◌, ◌-◌, ◌<◌, ◌≤◌, min, max}
 use native.Mathlib.Numerals.{add-one}
 use native.Mathlib.Omega.{arith}
-use lib.ListN.{length, set, take, drop, replicate, length-set, length-take}
-use lib.Seq.{take-suc-set}
+use lib.ListN.{length, set, take, drop, replicate, length-set, length-take, replicate-append-replicate}
+use lib.Seq.{take-suc-set, take_all}
 use Rattle.std.proofs.Common.{append-nil, length-drop}
 use Rattle.std.proofs.lemmas.List.{drop_all}
 use borrow.Rule.Slice.PartMut.{mid_of, put_mid}
@@ -53,3 +53,17 @@ cleared l zeros from kept e z =
     let size : length (take kept l) ≡ kept = omega (arith, length-take kept l) in
     let count : length (take (length l - kept) (drop kept l)) ≡ length l - kept = omega (arith, length-take (length l - kept) (drop kept l)) in
     rw (behind, append-nil, take_clipped l from kept e, size) (ap (λ (r : List ℕ). take kept l ++ r) (z ∙ ap (λ (n : ℕ). replicate n 0) count))
+
+-- one more zero behind the numbers that stay
+pub zero_more : (kept l : List ℕ) (i k : ℕ) → i < length l → take i l ≡ kept ++ replicate k 0 → take (i + 1) (set l i 0) ≡ kept ++ replicate (k + 1) 0
+zero_more kept l i k h e =
+    rw (add-one i) (take-suc-set l i 0 h ∙ rw e (append_assoc kept (replicate k 0) (0 ∷ []) ∙ ap (λ (r : List ℕ). kept ++ r) (replicate-append-replicate k 1 0)))
+
+-- at the end of the buffer it is the numbers that stay, with zeros behind them
+pub zeros_to_end : (l before : List ℕ) (from i : ℕ) → length l ≡ length before → from ≤ i → length l ≤ i → i ≤ max (length before) from
+    → take i l ≡ take from before ++ replicate (i - from) 0
+    → l ≡ zero_filled (length before) (take from before)
+unfolding zero_filled
+zeros_to_end l before from i n low end high e =
+    let count : i - from ≡ length before - length (take from before) = rw (length-take from before) (omega arith) in
+    sym (take_all i l end) ∙ rw e (ap (λ (k : ℕ). take from before ++ replicate k 0) count)

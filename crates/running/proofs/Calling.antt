@@ -24,7 +24,7 @@ use Rattle.tables.specs.declared.Procedure.{Procedure}
 use Rattle.running.specs.declared.Tally.{Tally}
 use Rattle.running.specs.declared.RunFault.TheVariants.{NoRule, TooManyCalls}
 use Rattle.running.specs.Places.{Children}
-use Rattle.plans.specs.Plans.{most_procedures, rule_symbols, most_nodes, numbers_place, ends_place, plan_node, plan_sought, plan_most}
+use Rattle.plans.specs.Plans.{most_procedures, rule_symbols, most_nodes, numbers_place, ends_place, plan_node, plan_sought, plan_most, plan_stay}
 use Rattle.plans.proofs.Seeking.{RuleTaken, rule_taken, no_rule_taken}
 use Rattle.running.specs.Work.{Outcome, work_of, step_of, plan_child}
 use Rattle.running.specs.Promises.{Plan, OperableIn, CallableIn, EvaluableIn, Evaluable, applied, runs_from, EvaluatesIn, Applies, Calls, CallsIn}
@@ -166,6 +166,9 @@ module _ {plan : List ℕ} {place p : ℕ} (asked : CallableIn plan place p) whe
 
   pub procedure_small : p < most_procedures
   procedure_small = omega (arith, asked.named, caller.tables.procedures.≤most)
+
+  pub stay_small : plan_stay plan < rule_symbols
+  stay_small = omega (arith, caller.laid.stay, caller.tables.symbols.≤most)
 
   pub too_many : {most : ℕ} → most ≡ plan_most plan → {first second : ℕ} (buffer : List ℕ) (tally : Tally) → most ≤ tally.calls
       → Called first second buffer tally (Err (TooManyCalls most)) buffer

@@ -13,7 +13,7 @@ use Rattle.model.specs.Running.{Step, most_calls, run, closing}
 use Rattle.answers.specs.declared.Ran.{Ran}
 use Rattle.answers.specs.declared.RunningRefusal.{RunningRefusal}
 use Rattle.answers.specs.Numbers.{running_answer}
-use Rattle.plans.specs.Plans.{Laid}
+use Rattle.plans.specs.Plans.{Laid, SmallRules}
 use Rattle.reading.specs.Ends.{EndsFrom}
 use Rattle.model.proofs.Laws.Documents.{document-tree}
 use Rattle.std.specs.Prelude.{Result, Ok, Err}
@@ -23,6 +23,7 @@ use Rattle.running.specs.declared.Ended.{Ended}
 use Rattle.running.specs.Work.{Outcome, step_of, ended_of, numbers_kept, end_answer}
 use Rattle.running.specs.Places.{ReadDocument}
 use Rattle.running.specs.Promises.{Admitted, CallableIn, Calls, Closes}
+use Rattle.running.specs.declared.RunFault.{RunFault}
 
 module _ (n taken free : ℕ) (before : Tally) where
   closed_answer : (x : Outcome) (o : List ℕ) → (closing n taken (step_of free x o)).answer ≡ end_answer free taken (ended_of before x).end (ended_of before x).tally
@@ -72,3 +73,24 @@ callable {T = T} {numbers = numbers} {ends = ends} tables read end laid =
       inside = read.some;
       named = omega (arith, tables.procedures.least≤);
     }
+
+-- the rules of an admitted transformation have room in a plan
+pub small_rules : (T : Transformation) → Admitted T → SmallRules T.rules
+small_rules T admitted =
+    record {
+      procedure = λ r h. let good = admitted.rule r h in omega (arith, good.procedure, admitted.procedures.≤most);
+      symbol = λ r h. let good = admitted.rule r h in omega (arith, good.symbol, admitted.symbols.≤most);
+    }
+
+-- the run ended with a fault
+abbrev pub Refused : Result ℕ RunFault → Type 0
+Refused (Ok root) = ⊥
+Refused (Err fault) = Unit {0}
+
+root_not_refused : (root : ℕ) → Refused (Ok root) → ⊥
+root_not_refused root h = h
+
+-- a refusal keeps nothing of the buffer
+pub refused-keeps : (x : Result ℕ RunFault) (tally : Tally) → Refused x → numbers_kept x tally ≡ 0
+refused-keeps (Ok root) tally h = absurd (root_not_refused root h)
+refused-keeps (Err fault) tally h = refl

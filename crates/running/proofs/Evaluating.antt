@@ -22,10 +22,18 @@ use Rattle.model.proofs.Laws.Calling.{Holds, Made as AtLeast, evaluate_grown, ch
 use Rattle.running.specs.declared.Tally.{Tally}
 use Rattle.running.specs.declared.RunFault.{RunFault}
 use Rattle.running.specs.declared.RunFault.TheVariants.{NoRule, NoRow, TooManyCalls}
-use Rattle.plans.specs.Plans.{plan_node, Laid}
+use Rattle.plans.specs.Plans.{plan_node, Laid, most_procedures}
 use Rattle.running.specs.Work.{Outcome, work_of, step_of, parameter_row, operand_count, plan_operands, operand_node}
 use Rattle.running.specs.Promises.{Plan, EvaluableIn, Evaluable, OperableIn, Carries, operated, runs_from, value_from, Evaluates, EvaluatesIn, Operates, OperatesIn, AppliesIn}
 use Rattle.running.proofs.Steps.{step_parameter, step_node, operand_smaller, operand_quiet, operated_none, operated_there, rows_of, call_named, parameter_name}
+
+-- a refusal
+abbrev pub Refused : Outcome → Type 0
+Refused (Ok _) = ⊥
+Refused (Err _) = Unit {0}
+
+made_not_refused : (row : ℕ) (tally : Tally) → Refused (Ok (row, tally)) → ⊥
+made_not_refused row tally h = h
 
 -- a fault ends the work, whatever was to follow
 stops : {s : Step ℕ} (free : ℕ) (fault : RunFault) (o : List ℕ) (k : ℕ → Work → Step ℕ) → s ≡ step_of free (Err fault) o → (s after k) ≡ step_of free (Err fault) o
@@ -84,6 +92,9 @@ module _ {plan : List ℕ} {place k : ℕ} (asked : OperableIn plan place k) {n 
 
   named : (n.tag ≡ 1 → ⊥) → n.name < length T.counts
   named other = rw en (call_named T.counts good asked.inner (rw en at other))
+
+  pub named_small : (n.tag ≡ 1 → ⊥) → n.name < most_procedures
+  named_small other = omega (arith, named other, asked.known.tables.procedures.≤most)
 
   module _ {number : ℕ} (either : Between 1 2 number) {count : ℕ} (found : count ≡ plan_operands plan n) where
     counted : count ≡ operand_count T.counts here

@@ -24,6 +24,7 @@ use Rattle.lexing.specs.declared.words.Table.{Table}
 use Rattle.lexing.specs.declared.words.Table.TheVariants as table
 use Rattle.script.specs.declared.statements.Listed.TheVariants as listed
 use Rattle.script.specs.declared.statements.Reading.{Reading}
+use Rattle.script.specs.declared.statements.Misread.{Misread}
 use Rattle.script.specs.declared.statements.Statement.{Statement}
 use Rattle.script.specs.declared.statements.Statement.TheVariants as statement
 
@@ -205,6 +206,12 @@ module _ (state : State) where
   step text (statement.Write row room) values = record { state = state; printed = labelled state (written_text (writing_out state.rows row (untouched room))) }
   step text statement.Show values = record { state = state; printed = left_lines state state.left }
 
+  -- what was read, done: nothing where there is no statement any more, and for a fault
+  abbrev pub step_read : (text : List ℕ) → Result (Option Statement) Fault → List ℕ → Step
+  step_read text (Ok (Some s)) values = step text s values
+  step_read text (Ok None) values = quiet state
+  step_read text (Err f) values = quiet state
+
 -- what was expected, and what stood there
 abbrev pub expected_text : Expected → List ℕ
 expected_text expected.Statement = phrases.a_statement
@@ -236,10 +243,10 @@ fault_line text f =
 
 module _ (text : List ℕ) (cut : Bool) where
   -- a script stops at its end, and at a fault; `next` is what is printed from the state and the place behind the statement on
-  abbrev pub play_step : (State → ℕ → List ℕ) → State → List ℕ → Result (Option Reading) Fault → List ℕ
+  abbrev pub play_step : (State → ℕ → List ℕ) → State → List ℕ → Result (Option Reading) Misread → List ℕ
   play_step next state values (Ok (Some r)) = let s : Step = step state text r.statement values in s.printed ++ next s.state r.next
   play_step next state values (Ok None) = []
-  play_step next state values (Err f) = fault_line text f
+  play_step next state values (Err m) = fault_line text m.fault
 
   -- what is printed from a place on, of at most so many statements
   unfoldable pub played : ℕ → State → ℕ → List ℕ

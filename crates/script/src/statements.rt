@@ -38,17 +38,26 @@ pub struct Reading {
     pub next: usize,
 }
 
+// A fault in a statement, and the place up to which the statement was read: behind its word, behind a number that stands before the fault,
+// or before the statement.
+#[derive(Clone, Copy, Debug, PartialEq, Eq)]
+pub struct Misread {
+    pub fault: Fault,
+    pub next: usize,
+}
+
 // The label behind `case`.
 #[tactic(auto, unfolding(crate::specs::Statements::name_at))]
-fn read_name(text: &[u8], cut: bool, at: usize) -> Result<Reading, Fault>
+fn read_name(text: &[u8], cut: bool, at: usize) -> Result<Reading, Misread>
     ensures { result ≡ name_at text.now cut at }
 {
-    let span = whole_span(text, cut, at)?;
+    let span = whole_span(text, cut, at).map_err(|fault| Misread { fault, next: at })?;
     if text.len() <= span.start {
-        return Err(Fault {
+        let fault = Fault {
             span,
             expected: Expected::Name,
-        });
+        };
+        return Err(Misread { fault, next: at });
     }
     Ok(Reading {
         statement: Statement::Case(span),
@@ -58,10 +67,10 @@ fn read_name(text: &[u8], cut: bool, at: usize) -> Result<Reading, Fault>
 
 // The number behind the word of a size.
 #[tactic(auto, unfolding(crate::specs::Statements::size_at))]
-fn read_size(text: &[u8], cut: bool, at: usize, size: Size) -> Result<Reading, Fault>
+fn read_size(text: &[u8], cut: bool, at: usize, size: Size) -> Result<Reading, Misread>
     ensures { result ≡ size_at text.now cut at size }
 {
-    let (value, next) = due_number(text, cut, at)?;
+    let (value, next) = due_number(text, cut, at).map_err(|fault| Misread { fault, next: at })?;
     Ok(Reading {
         statement: Statement::Size(size, value),
         next,
@@ -70,10 +79,10 @@ fn read_size(text: &[u8], cut: bool, at: usize, size: Size) -> Result<Reading, F
 
 // The limit behind `check`.
 #[tactic(auto, unfolding(crate::specs::Statements::check_at))]
-fn read_check(text: &[u8], cut: bool, at: usize) -> Result<Reading, Fault>
+fn read_check(text: &[u8], cut: bool, at: usize) -> Result<Reading, Misread>
     ensures { result ≡ check_at text.now cut at }
 {
-    let (limit, next) = due_number(text, cut, at)?;
+    let (limit, next) = due_number(text, cut, at).map_err(|fault| Misread { fault, next: at })?;
     Ok(Reading {
         statement: Statement::Check(limit),
         next,
@@ -82,18 +91,23 @@ fn read_check(text: &[u8], cut: bool, at: usize) -> Result<Reading, Fault>
 
 // The row and the room behind `write`.
 #[tactic(auto, unfolding(crate::specs::Statements::write_at))]
-fn read_write(text: &[u8], cut: bool, at: usize) -> Result<Reading, Fault>
+fn read_write(text: &[u8], cut: bool, at: usize) -> Result<Reading, Misread>
     ensures { result ≡ write_at text.now cut at }
 {
-    let (row, behind) = due_number(text, cut, at)?;
-    let (room, next) = due_number(text, cut, behind)?;
+    let (row, behind) = due_number(text, cut, at).map_err(|fault| Misread { fault, next: at })?;
+    let (room, next) = due_number(text, cut, behind).map_err(|fault| Misread {
+        fault,
+        next: behind,
+    })?;
     Ok(Reading {
         statement: Statement::Write(row, room),
         next,
     })
 }
 
-// A list of numbers.
+// A list of numbers. It is compiled in, as the other readers are: where it is called, what it answers comes out of memory in pieces, and a
+// script of many short lists takes a seventh longer.
+#[inline(always)]
 #[tactic(auto, unfolding(crate::specs::Statements::list_at))]
 fn read_list(
     text: &[u8],
@@ -101,11 +115,14 @@ fn read_list(
     at: usize,
     listed: Listed,
     buffer: &mut [u16],
-) -> Result<Reading, Fault>
+) -> Result<Reading, Misread>
     ensures value { result ≡ (list_at text.now cut (length buffer.old) at listed).reading }
     ensures buffer_after { buffer.new ≡ overwritten (list_at text.now cut (length buffer.old) at listed).values buffer.old }
 {
-    let (count, next) = read_numbers(text, cut, at, buffer)?;
+    let (count, next) = read_numbers(text, cut, at, buffer).map_err(|fault| Misread {
+        fault,
+        next: at,
+    })?;
     Ok(Reading {
         statement: Statement::List(listed, count),
         next,
@@ -114,11 +131,11 @@ fn read_list(
 
 // The rows and the document behind `run`.
 #[tactic(auto, unfolding(crate::specs::Statements::run_at))]
-fn read_run(text: &[u8], cut: bool, at: usize, buffer: &mut [u16]) -> Result<Reading, Fault>
+fn read_run(text: &[u8], cut: bool, at: usize, buffer: &mut [u16]) -> Result<Reading, Misread>
     ensures value { result ≡ (run_at text.now cut (length buffer.old) at).reading }
     ensures buffer_after { buffer.new ≡ overwritten (run_at text.now cut (length buffer.old) at).values buffer.old }
 {
-    let (rows, next) = due_number(text, cut, at)?;
+    let (rows, next) = due_number(text, cut, at).map_err(|fault| Misread { fault, next: at })?;
     read_list(text, cut, next, Listed::Run(rows), buffer)
 }
 
@@ -130,7 +147,7 @@ fn after_word(
     span: Span,
     word: Word,
     buffer: &mut [u16],
-) -> Result<Reading, Fault>
+) -> Result<Reading, Misread>
     ensures value { result ≡ (word_at text.now cut (length buffer.old) span word).reading }
     ensures buffer_after { buffer.new ≡ overwritten (word_at text.now cut (length buffer.old) span word).values buffer.old }
 {
@@ -152,25 +169,31 @@ fn after_word(
             statement: Statement::Show,
             next: end,
         }),
-        Word::Unknown => Err(Fault {
-            span,
-            expected: Expected::Statement,
-        }),
+        Word::Unknown => {
+            let fault = Fault {
+                span,
+                expected: Expected::Statement,
+            };
+            Err(Misread {
+                fault,
+                next: span.start,
+            })
+        }
     }
 }
 
-// Reads the statement at a place, if there is one any more.
+// Reads the statement at a place, if there is one any more: at the end of the text nothing is read, and the place stays `at`.
 #[tactic(auto, unfolding(crate::specs::Statements::statement_at))]
 pub fn read_statement(
     text: &[u8],
     cut: bool,
     at: usize,
     buffer: &mut [u16],
-) -> Result<Option<Reading>, Fault>
+) -> Result<Option<Reading>, Misread>
     ensures value { result ≡ (statement_at text.now cut (length buffer.old) at).reading }
     ensures buffer_after { buffer.new ≡ overwritten (statement_at text.now cut (length buffer.old) at).values buffer.old }
 {
-    let span = whole_span(text, cut, at)?;
+    let span = whole_span(text, cut, at).map_err(|fault| Misread { fault, next: at })?;
     if text.len() <= span.start {
         return Ok(None);
     }

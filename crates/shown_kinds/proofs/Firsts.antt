@@ -32,6 +32,15 @@ module _ (words mask : List ℕ) where
   unfolding first_rows
   first_rows_new k e = rw e
 
+  pub first_rows_few : (n : ℕ) → length (first_rows words mask n) ≤ n
+  unfolding first_rows
+  first_rows_few zero = omega arith
+  first_rows_few (suc k) = go (some_looks_so words mask k (shown_at words mask k)) refl (first_rows_few k)
+    where
+      go : (b : Bool) → some_looks_so words mask k (shown_at words mask k) ≡ b → length (first_rows words mask k) ≤ k → length (first_rows words mask (suc k)) ≤ suc k
+      go true e h = omega (arith, ap length (first_rows_old k e))
+      go false e h = omega (arith, ap length (first_rows_new k e), length-append (first_rows words mask k) (k ∷ []))
+
   -- what first rows are among n: below n, ascending, and one for every row, not behind it, that it looks like
   pub record Firsts (n : ℕ) (rows : List ℕ) : Type 0 where
     pub below : (i : ℕ) → i < length rows → get_or rows i 0 < n

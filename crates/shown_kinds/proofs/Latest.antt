@@ -200,3 +200,7 @@ no_rows chains part long e =
 
     filled : length part ≡ 4096
     filled = rw e (length-replicate _ _ ∙ full)
+
+module _ (words mask seen chains : List ℕ) (entry next : ℕ) (reached : Reached words mask seen entry next) (some : 0 < next) where
+  row_before : (k : ℕ) → next ≡ suc k → looks_so words mask seen k ≡ true → some_looks_so words mask entry seen ≡ true
+  row_before k e t = reached.same ∙ ap (λ (n : ℕ). some_looks_so words mask n seen) e ∙ test_true _ (some_intro (suc k) (looks_so words mask seen) k (omega arith) (true_test _ t))

@@ -117,11 +117,39 @@ impl Numbered for Procedure {
     }
 }
 
-// A number is none of so many of its kind.
+// A number is none of so many of its kind: the one test of the four below, each of which takes a type of its own.
 pub fn is_none_of<N: Numbered>(count: usize, number: N) -> bool
     ensures { result ≡ leb count (N.number number) }
 {
     count <= number.number()
+}
+
+// A number is none of so many symbols.
+pub fn symbol_wrong(symbols: usize, symbol: Symbol) -> bool
+    ensures { result ≡ leb symbols symbol.0 }
+{
+    is_none_of::<Symbol>(symbols, symbol)
+}
+
+// A number is none of so many input states.
+pub fn input_state_wrong(input_states: usize, state: InputState) -> bool
+    ensures { result ≡ leb input_states state.0 }
+{
+    is_none_of::<InputState>(input_states, state)
+}
+
+// A number is none of so many output states.
+pub fn output_state_wrong(output_states: usize, state: OutputState) -> bool
+    ensures { result ≡ leb output_states state.0 }
+{
+    is_none_of::<OutputState>(output_states, state)
+}
+
+// A number is none of so many procedures.
+pub fn procedure_wrong(procedures: usize, procedure: Procedure) -> bool
+    ensures { result ≡ leb procedures procedure.0 }
+{
+    is_none_of::<Procedure>(procedures, procedure)
 }
 
 // A length is no whole number of tuples, or more than the most of them.

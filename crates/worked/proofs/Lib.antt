@@ -1,2 +1,3 @@
 -- Lines put one behind another.
 pub mod Texts
+pub mod Sevens

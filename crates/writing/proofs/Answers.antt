@@ -9,7 +9,7 @@ use lib.ListN.{length, drop}
 use lib.Seq.{sets, sets-eq}
 use borrow.Author.Tests.{ltb-true, ltb-false, lt-ltb, le-ltb, le-leb, lt-leb}
 use Rattle.std.specs.Prelude.{Some, None}
-use Rattle.foundation.specs.Search.{first, first_below, first_clear}
+use Rattle.foundation.specs.Search.{first, first_below, first_clear, first_none}
 use Rattle.model.specs.Answers.{Verdict, refused, refuse_if, refuse_first, ◌then◌, Answer, written, refusal, given}
 use Rattle.model.specs.Answers as model
 use Rattle.model.specs.Rows.{row_count}
@@ -21,6 +21,7 @@ use Rattle.answers.specs.declared.WritingRefusal.TheVariants as writing
 use Rattle.answers.specs.Numbers.{writing_refusal}
 use Rattle.writing.specs.Rows.{wrong_at, NoneWrong, numbers_at, size_within}
 use Rattle.writing.specs.Tests.{rows_verdict, refusal_verdict}
+use Rattle.writing.proofs.Ready.{Ready}
 
 -- what a search that ends at a number, or at none, says of the first
 some_first : (p : ℕ → Bool) (n k : ℕ) → first_below p n ≡ Some k → (first p n ≡ k) × (k < n)
@@ -49,12 +50,32 @@ module _ (rows : List ℕ) where
         let (e, below) = some_first _ _ _ found in
         rw (right, e, lt-ltb _ _ below)
 
-    pub right_rows : first_below (wrong_at rows) (row_count rows) ≡ None → model.fine ≡ rows_verdict rows
+    passed : (k : ℕ) → k ≡ first (wrong_at rows) (row_count rows) → row_count rows ≤ k → model.fine ≡ rows_verdict rows
     unfolding refuse_if refuse_first ◌then◌
-    right_rows found = rw (right, le-ltb _ _ (none_first _ _ found))
+    passed k sought none = rw (right, ← sought, le-ltb _ _ none)
+
+    pub right_rows : first_below (wrong_at rows) (row_count rows) ≡ None → model.fine ≡ rows_verdict rows
+    right_rows found = passed _ refl (none_first _ _ found)
 
   pub none_wrong : first_below (wrong_at rows) (row_count rows) ≡ None → NoneWrong rows
   none_wrong found = first_clear (wrong_at rows) (row_count rows) (none_first _ _ found)
+
+-- what is known where no rows are refused, as `ready` takes it
+pub tests_passed : (rows : List ℕ) → model.fine ≡ rows_verdict rows
+    → (rows_wrong (length rows) ≡ false) × (row_count rows ≤ first (wrong_at rows) (row_count rows))
+unfolding refuse_first
+tests_passed rows told =
+    let tests = then_fine _ _ (sym told) in
+    (refuse_if_fine _ _ _ tests.0, ltb-false _ _ (refuse_if_fine _ _ _ tests.1))
+
+-- there are at most 4,096 rows
+pub row_few : (rows : List ℕ) (row : ℕ) → Ready rows row → row < 4096
+row_few rows row r = go (not (eqb (length rows % 3) 0)) (ltb 12288 (length rows)) refl r.right
+  where
+    go : (a b : Bool) → ltb 12288 (length rows) ≡ b → (a || b) ≡ false → row < 4096
+    go true b p f = absurd (true≢false f)
+    go false true p f = absurd (true≢false f)
+    go false false p f = omega (arith, r.here, ltb-false 12288 (length rows) p)
 
 -- an answer, and what stands in the buffer then
 abbrev pub Gives : Written → Answer → List ℕ → Type 0
@@ -79,42 +100,34 @@ module _ (rows : List ℕ) (row : ℕ) (buffer : List ℕ) where
   wrong_rows (writing.Number k) e = refusing 18 k (parted ∙ then_refused _ _ 18 k (sym e))
   wrong_rows (writing.Room n) e = refusing 19 n (parted ∙ then_refused _ _ 19 n (sym e))
 
-  module _ (fine : model.fine ≡ rows_verdict rows) where
-    past : writing_verdict rows row buffer ≡ rest
-    past = parted ∙ then_passed _ _ (sym fine)
+  past : model.fine ≡ rows_verdict rows → writing_verdict rows row buffer ≡ rest
+  past told = parted ∙ then_passed _ _ (sym told)
 
-    pub no_row : row_count rows ≤ row → Gives (writing_out rows row buffer) (refusal 18 row) buffer
+  pub no_row : model.fine ≡ rows_verdict rows → row_count rows ≤ row → Gives (writing_out rows row buffer) (refusal 18 row) buffer
+  unfolding refuse_if ◌then◌ rest
+  no_row told h = refusing 18 row (past told ∙ rw (le-leb _ _ h))
+
+  -- the size counted no further than one above the room tells whether the tree fits
+  module _ (r : Ready rows row) (size : ℕ) (counted : size ≡ size_within (length buffer + 1) rows row) where
+    left : writing_verdict rows row buffer ≡ rest
+    left = past (passed rows r.right _ (sym (first_none (wrong_at rows) (row_count rows) r.fine)) (omega arith))
+
+    pub no_room : length buffer < size → Gives (writing_out rows row buffer) (refusal 19 (length buffer)) buffer
     unfolding refuse_if ◌then◌ rest
-    no_row h = refusing 18 row (past ∙ rw (le-leb _ _ h))
+    no_room h =
+        let more : length buffer < length (numbers_at rows row) = omega arith in
+        refusing 19 (length buffer) (left ∙ rw (lt-leb _ _ r.here, lt-ltb _ _ more))
 
-    module _ (here : row < row_count rows) where
-      -- there are at most 4,096 rows
-      pub row_few : row < 4096
-      row_few = go (not (eqb (length rows % 3) 0)) (ltb 12288 (length rows)) refl (refuse_if_fine _ _ _ (then_fine _ _ (sym fine)).0)
-        where
-          go : (a b : Bool) → ltb 12288 (length rows) ≡ b → (a || b) ≡ false → row < 4096
-          go true b p f = absurd (true≢false f)
-          go false true p f = absurd (true≢false f)
-          go false false p f = omega (arith, here, ltb-false 12288 (length rows) p)
+    fits : size ≤ length buffer → 0 + length (numbers_at rows row) ≤ length buffer
+    fits h = omega arith
 
-      -- the size counted no further than one above the room tells whether the tree fits
-      module _ (size : ℕ) (counted : size ≡ size_within (length buffer + 1) rows row) where
-        pub no_room : length buffer < size → Gives (writing_out rows row buffer) (refusal 19 (length buffer)) buffer
-        unfolding refuse_if ◌then◌ rest
-        no_room h =
-            let more : length buffer < length (numbers_at rows row) = omega arith in
-            refusing 19 (length buffer) (past ∙ rw (lt-leb _ _ here, lt-ltb _ _ more))
-
-        fits : size ≤ length buffer → 0 + length (numbers_at rows row) ≤ length buffer
-        fits h = omega arith
-
-        pub all_written : size ≤ length buffer
-            → (count : ℕ) → count ≡ 0 + length (numbers_at rows row)
-            → (closing : List ℕ) → closing ≡ sets buffer 0 (numbers_at rows row)
-            → Gives (writing_out rows row buffer) (written count) closing
-        unfolding refuse_if ◌then◌ writing_out given rest
-        all_written h count c closing k =
-            let n : count ≡ length (numbers_at rows row) = omega arith in
-            let e : writing_verdict rows row buffer ≡ model.fine
-            = past ∙ rw (lt-leb _ _ here, le-ltb (length buffer) (length (numbers_at rows row)) (omega arith)) in
-            (rw e (ap written n), rw e (k ∙ sets-eq (numbers_at rows row) buffer 0 (fits h) ∙ ap (λ (m : ℕ). numbers_at rows row ++ drop m buffer) (sym c ∙ n)))
+    pub all_written : size ≤ length buffer
+        → (count : ℕ) → count ≡ 0 + length (numbers_at rows row)
+        → (closing : List ℕ) → closing ≡ sets buffer 0 (numbers_at rows row)
+        → Gives (writing_out rows row buffer) (written count) closing
+    unfolding refuse_if ◌then◌ writing_out given rest
+    all_written h count c closing k =
+        let n : count ≡ length (numbers_at rows row) = omega arith in
+        let e : writing_verdict rows row buffer ≡ model.fine
+        = left ∙ rw (lt-leb _ _ r.here, le-ltb (length buffer) (length (numbers_at rows row)) (omega arith)) in
+        (rw e (ap written n), rw e (k ∙ sets-eq (numbers_at rows row) buffer 0 (fits h) ∙ ap (λ (m : ℕ). numbers_at rows row ++ drop m buffer) (sym c ∙ n)))

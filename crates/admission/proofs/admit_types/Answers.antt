@@ -1,10 +1,18 @@
--- `admit_types`: each answer is that of the first part that refuses. What the shape bounds is lent to the searches.
+-- `admit_types`: each answer is that of the first part that refuses. What the shape bounds is lent to the searches. Where none
+-- refuses stands first, since a part that looks at less is wrong there.
 use Rattle.model.specs.Admission.{input_rows, entries, counts}
 use Rattle.tables.specs.Handed.{handed}
 use Rattle.answers.proofs.Answered.{answer_refused, answer_passed, answer_last, answer_fine}
 use Rattle.admission_tables.proofs.Found.{found_refused, none_fine}
 use Rattle.admission.proofs.Order.{few_entries, few_procedures}
 use Rattle.admission.proofs.admit_types.Goals as goal
+
+pub returns : goal.returns
+unfolding input_rows entries counts
+returns c =
+    answer_passed _ _ _ (none_fine _ _ 3 c.in_default.ensures)
+    (answer_passed _ _ _ (none_fine _ _ 4 c.in_default-first_bad_entry.ensures)
+    (answer_fine _ (none_fine _ _ 5 c.in_default-first_bad_count.ensures)))
 
 pub returns-in-Some : goal.returns-in-Some
 unfolding input_rows
@@ -27,10 +35,3 @@ returns-in-Some-first_bad_count c =
     answer_passed _ _ _ (none_fine _ _ 3 c.in_default.ensures)
     (answer_passed _ _ _ (none_fine _ _ 4 c.in_default-first_bad_entry.ensures)
     (answer_last _ 5 _ (found_refused _ _ 5 _ c.in-Some-first_bad_count.ensures)))
-
-pub returns : goal.returns
-unfolding input_rows entries counts
-returns c =
-    answer_passed _ _ _ (none_fine _ _ 3 c.in_default.ensures)
-    (answer_passed _ _ _ (none_fine _ _ 4 c.in_default-first_bad_entry.ensures)
-    (answer_fine _ (none_fine _ _ 5 c.in_default-first_bad_count.ensures)))

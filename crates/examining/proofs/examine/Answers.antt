@@ -16,13 +16,13 @@ pub returns-then-tuples_wrong : goal.returns-then-tuples_wrong
 returns-then-tuples_wrong c =
     (refused_length _ _ (admitted_fine _ _ refl c.in_ok-admit.ensures) (sym c.tuples_wrong.ensures ∙ c.if-tuples_wrong.true), tt)
 
-pub prepare-requires : goal.prepare-requires
-prepare-requires c =
+pub prepare-masked-requires : goal.prepare-masked-requires
+prepare-masked-requires c =
     let known = admitted_established _ _ refl c.in_ok-admit.ensures in
     (known, omega (arith, room_enough _ known), omega arith)
 
 pub returns : goal.returns
 returns c =
-    let same = c.with_masks-masked.ensures ∙ c.prepare.ensures in
+    let same = c.prepare-masked.ensures.contract in
     let fine = admitted_fine _ _ refl c.in_ok-admit.ensures in
     (examined_list _ _ fine (sym c.tuples_wrong.ensures ∙ c.if-tuples_wrong.false) _ same c.examine_prepared.ensures.0, c.examine_prepared.ensures.1)

@@ -9,12 +9,12 @@ use Rattle.reading.proofs.leading_tree.Goals as goal
 pub loop-at-init : goal.loop-at-init
 loop-at-init c = (omega arith, omega arith, reached_start _ _)
 
-pub returns-then-is_none_of : goal.returns-then-is_none_of
-returns-then-is_none_of c = reached_fault _ _ _ _ c.loop-at.invariant.2 (omega arith) (omega arith) (leb-true _ _ (sym c.is_none_of.ensures ∙ c.if-is_none_of.true))
+pub returns-then-symbol_wrong : goal.returns-then-symbol_wrong
+returns-then-symbol_wrong c = reached_fault _ _ _ _ c.loop-at.invariant.2 (omega arith) (omega arith) (leb-true _ _ (sym c.symbol_wrong.ensures ∙ c.if-symbol_wrong.true))
 
 pub returns-then-due-eq0 : goal.returns-then-due-eq0
 returns-then-due-eq0 c =
-    let next = reached-next _ _ _ _ c.loop-at.invariant.2 (omega arith) (omega arith) (leb-false _ _ (sym c.is_none_of.ensures ∙ c.if-is_none_of.false)) in
+    let next = reached-next _ _ _ _ c.loop-at.invariant.2 (omega arith) (omega arith) (leb-false _ _ (sym c.symbol_wrong.ensures ∙ c.if-symbol_wrong.false)) in
     reached_end _ _ _ _ (rw (← c.due_after-due.ensures) at next) (omega arith)
 
 pub loop-at-preserved : goal.loop-at-preserved
@@ -23,7 +23,7 @@ loop-at-preserved c =
     let e = c.due_after-due.ensures in (
       omega arith,
       rw e (omega (arith, due_bound number c.loop-at.due)),
-      rw e (reached-next _ _ _ _ c.loop-at.invariant.2 (omega arith) (omega arith) (leb-false _ _ (sym c.is_none_of.ensures ∙ c.if-is_none_of.false))),
+      rw e (reached-next _ _ _ _ c.loop-at.invariant.2 (omega arith) (omega arith) (leb-false _ _ (sym c.symbol_wrong.ensures ∙ c.if-symbol_wrong.false))),
     )
 
 pub returns : goal.returns

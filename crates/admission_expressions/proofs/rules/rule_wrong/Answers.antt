@@ -6,7 +6,7 @@ use Rattle.admission_expressions.proofs.rules.rule_wrong.Goals as goal
 pub returns : goal.returns
 returns c =
     rw (
-      c.is_none_of.ensures,
+      c.procedure_wrong.ensures,
       c.number.ensures,
       c.from.ensures,
       c.count_of.ensures,

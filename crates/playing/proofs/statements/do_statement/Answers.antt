@@ -1,42 +1,24 @@
--- Case by case: what the statement is known to be, and the step that it is.
-use Rattle.std.proofs.Common.{◌+◌, take, arith}
-use lib.Seq.{length-take-le}
-use Rattle.playing.specs.Desks.{label_of, state_of, stretch, span}
-use Rattle.playing.specs.Plays.{count_of}
-use Rattle.playing.proofs.StatementLaws.{plays_case, plays_size, plays_as, plays_write, plays_show, step_admit, step_check}
+-- A statement that was read is done; where none was, nothing is.
+use Rattle.std.proofs.Common.{◌≡◌, ap, ◌∙◌, ◌+◌, Some, None, Ok}
+use Rattle.playing.specs.Desks.{label_of, stretch, span}
+use Rattle.playing.specs.Plays.{count_read}
+use Rattle.playing.proofs.StatementLaws.{plays_end, plays_fault}
 use Rattle.playing.proofs.statements.do_statement.Goals as goal
 
-pub returns-in-Case-clause-by_index : goal.returns-in-Case-clause-by_index
-returns-in-Case-clause-by_index c =
-    let a = c.args in
-    λ text. plays_case (label_of text a.label) a.numbers.now a.rows.now a.words.now a.out.now text a.desk c.requires.0 (stretch a.numbers.now (span a.desk.used (a.desk.used + count_of a.statement))) c.in-Case.is
+pub returns-in-Ok-Some-clause-by_index : goal.returns-in-Ok-Some-clause-by_index
+returns-in-Ok-Some-clause-by_index c =
+    let inner : c.in-Ok-Some.field-0 ≡ Some c.in-Ok-Some.statement = rw c.in-Ok-Some.is at c.in-Ok-Some.field-0-is in
+    let read : c.args.read ≡ Ok (Some c.in-Ok-Some.statement) = c.in-Ok-Some.is ∙ ap Ok inner in
+    rw read c.do_one.ensures.by_index
 
-pub returns-in-Size-clause-by_index : goal.returns-in-Size-clause-by_index
-returns-in-Size-clause-by_index c =
+pub returns-in-Ok-None-clause-by_index : goal.returns-in-Ok-None-clause-by_index
+returns-in-Ok-None-clause-by_index c =
     let a = c.args in
-    λ text. plays_size (label_of text a.label) a.numbers.now a.rows.now a.words.now a.out.now text a.desk c.requires.0 (stretch a.numbers.now (span a.desk.used (a.desk.used + count_of a.statement))) c.in-Size.is c.from.ensures c.set_size.ensures
+    let inner : c.in-Ok-None.field-0 ≡ None = rw c.in-Ok-None.is at c.in-Ok-None.field-0-is in
+    let read : a.read ≡ Ok None = c.in-Ok-None.is ∙ ap Ok inner in
+    λ text. rw c.nothing_done.ensures (plays_end (label_of text a.label) a.numbers.now a.rows.now a.words.now a.out.now text a.desk c.requires.0 (stretch a.numbers.now (span a.desk.used (a.desk.used + count_read a.read))) read)
 
-pub returns-in-List-clause-by_index : goal.returns-in-List-clause-by_index
-returns-in-List-clause-by_index c =
+pub returns-in-Err-clause-by_index : goal.returns-in-Err-clause-by_index
+returns-in-Err-clause-by_index c =
     let a = c.args in
-    λ text. rw c.in-List.is (c.do_list.ensures.by_index text)
-
-pub returns-in-Admit-clause-by_index : goal.returns-in-Admit-clause-by_index
-returns-in-Admit-clause-by_index c =
-    let a = c.args in
-    λ text. plays_as text c.answer.ensures.label_value (step_admit (state_of (label_of text a.label) a.desk a.numbers.now a.rows.now a.words.now) text (stretch a.numbers.now (span a.desk.used (a.desk.used + count_of a.statement))) (stretch a.numbers.now (span a.desk.used a.desk.used)) c.in-Admit.is) (c.answer.ensures.by_index (label_of text a.label))
-
-pub returns-in-Check-clause-by_index : goal.returns-in-Check-clause-by_index
-returns-in-Check-clause-by_index c =
-    let a = c.args in
-    λ text. plays_as text c.answer-in-Check.ensures.label_value (step_check (state_of (label_of text a.label) a.desk a.numbers.now a.rows.now a.words.now) text (stretch a.numbers.now (span a.desk.used (a.desk.used + count_of a.statement))) (stretch a.numbers.now (span a.desk.used a.desk.used)) c.in-Check.is c.from-in-Check.ensures) (c.answer-in-Check.ensures.by_index (label_of text a.label))
-
-pub returns-in-Write-clause-by_index : goal.returns-in-Write-clause-by_index
-returns-in-Write-clause-by_index c =
-    let a = c.args in
-    λ text. plays_write (label_of text a.label) a.numbers.now a.rows.now a.words.now c.write-printed.new.out text a.desk c.requires.0 (stretch a.numbers.now (span a.desk.used (a.desk.used + count_of a.statement))) (take c.from-room.result a.tree.now) c.in-Write.is c.from-in-Write.ensures (length-take-le _ _ (omega arith)) c.from-room.ensures c.write-printed.ensures.result_after c.write-printed.ensures.printed_fits
-
-pub returns-in-Show-clause-by_index : goal.returns-in-Show-clause-by_index
-returns-in-Show-clause-by_index c =
-    let a = c.args in
-    λ text. plays_show (label_of text a.label) a.numbers.now a.rows.now a.words.now c.show-printed.new.out text a.desk c.requires.0 (stretch a.numbers.now (span a.desk.used (a.desk.used + count_of a.statement))) c.in-Show.is c.show-printed.ensures.result_after c.show-printed.ensures.printed_fits
+    λ text. rw c.nothing_done-in-Err.ensures (plays_fault (label_of text a.label) a.numbers.now a.rows.now a.words.now a.out.now text a.desk c.requires.0 (stretch a.numbers.now (span a.desk.used (a.desk.used + count_read a.read))) c.in-Err.is)

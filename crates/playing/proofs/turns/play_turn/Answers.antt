@@ -27,6 +27,6 @@ pub returns-in-Err : goal.returns-in-Err
 returns-in-Err c =
     let a = c.args in
     let out = a.out.now in
-    let line = fault_line a.text.now c.in-Err.fault in
-    let short : length line ≤ length out = omega (arith, fault_short a.text.now c.in-Err.fault, c.requires.3.out_long) in
+    let line = fault_line a.text.now c.in-Err.field-0.fault in
+    let short : length line ≤ length out = omega (arith, fault_short a.text.now c.in-Err.field-0.fault, c.requires.3.out_long) in
     turn_fault a.text.now a.cut a.at a.label a.desk c.requires.0 a.numbers.now a.rows.now a.words.now c.requires.2 c.in-Err.ensures.value (appended_first out line c.fault_line.ensures short) (appended_within out line c.fault_line.ensures short) c.requires.1

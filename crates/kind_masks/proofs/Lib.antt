@@ -1,0 +1,2 @@
+-- How many ones there are.
+pub mod Ones
