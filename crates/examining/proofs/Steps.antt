@@ -8,6 +8,7 @@ use lib.Dec.{eqb, ltb}
 use lib.ListN.{length}
 use Rattle.foundation.specs.Search.{first, first_below, first_cong, first_at, first_none}
 use Rattle.model.specs.Tables.{Contract}
+use Rattle.model.specs.Facts.{fact_total}
 use Rattle.model.specs.Answers.{Verdict, fine, refused, ◌then◌, refuse_if, refuse_first}
 use Rattle.model.specs.Admission.{admission, admit}
 use Rattle.model.specs.Kinds.{empty_kind, breaks}
@@ -19,6 +20,9 @@ use Rattle.answers.specs.Numbers.{contract_refusal}
 use Rattle.answers.specs.declared.ContractFault.{ContractFault}
 use Rattle.answers.proofs.Answered.{refused_as}
 use Rattle.admission_tables.proofs.Found.{found_refused, none_fine}
+use Rattle.prepared.specs.Parts.{contract_in, Ready}
+use Rattle.prepared.specs.declared.Parts.{Parts}
+use Rattle.preparing.specs.Packing.{Prepares, Covered, covered}
 use Rattle.breaking.specs.declared.Verdicts.{Verdicts}
 use Rattle.breaking.specs.Verdicts.{VerdictsOf, breaking_is}
 use Rattle.shown_kinds.specs.Chains.{some_looks_so}
@@ -49,6 +53,20 @@ module _ (C : Contract) (words : List ℕ) where
       → {verdict : Verdict} (D : Contract) → D ≡ C → verdict ≡ list_verdict D words → verdict ≡ examining C words
   unfolding examining length_verdict ◌then◌ refuse_if
   examined_list e good D same told = rw (e, good) (rw same at told)
+
+  -- what is asked of a prepared contract and a list of a good length
+  pub made_ready : {p : Parts} {table left_masks right_masks : List ℕ} {facts : ℕ} → Prepares C p table left_masks right_masks
+      → facts ≡ fact_total C.output.states C.transformation.counts
+      → (not (eqb (length words % 5) 0) || ltb (5 * most_kinds) (length words)) ≡ false
+      → Ready p table × Covered (contract_in p table) left_masks right_masks
+      × (facts ≡ fact_total (contract_in p table).output.states (contract_in p table).transformation.counts)
+      × (length words ≤ 20480)
+  made_ready made facts good = (
+    made.ready,
+    covered made,
+    facts ∙ ap (λ (D : Contract). fact_total D.output.states D.transformation.counts) (sym made.contract),
+    short good,
+  )
 
   -- the four verdicts on a list
   pub refused_empty : holds C words (empty_kind C) ≡ false → refused 71 0 ≡ list_verdict C words

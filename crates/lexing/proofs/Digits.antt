@@ -10,7 +10,7 @@ use Rattle.lexing.proofs.Scans.{at_byte, at_end}
 use lib.Dec.{leb}
 
 -- values that are equal up to 65536 make the same numeral
-capped : (v w : ℕ) (l : List ℕ) → min v 65536 ≡ min w 65536 → numeral_from v l ≡ numeral_from w l
+pub capped : (v w : ℕ) (l : List ℕ) → min v 65536 ≡ min w 65536 → numeral_from v l ≡ numeral_from w l
 unfolding numeral_from
 capped v w [] e = go (ltb v 65536) refl
   where

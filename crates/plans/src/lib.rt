@@ -159,7 +159,7 @@ impl Plan {
         self.side_of(procedure, stay)
     }
 
-    // The same, if there is one.
+    // The right side that a run takes for a procedure and a symbol, if there is one.
     pub fn sought_side(&self, procedure: Procedure, symbol: Symbol) -> Option<usize>
         requires { (procedure.0 < most_procedures) × (symbol.0 < rule_symbols) × (plan_stay self.now < rule_symbols) }
         ensures { result ≡ plan_sought self.now procedure.0 symbol.0 }

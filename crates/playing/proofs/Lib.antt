@@ -1,4 +1,5 @@
 -- Laws of buffers, desks and printed lines, apart from any code.
+pub mod Copies
 pub mod StateLaws
 pub mod QuestionLaws
 pub mod LineLaws

@@ -24,9 +24,11 @@ use Rattle.script.specs.declared.statements.Reading.{Reading}
 use Rattle.script.specs.declared.statements.Misread.{Misread}
 use Rattle.std.specs.Prelude.{Option, Some, None, Result, Ok, Err}
 use Rattle.playing.specs.declared.desks.Desk.{Desk}
+use Rattle.playing.specs.declared.showing.Printed.{Printed}
 use Rattle.playing.specs.declared.showing.Printed.TheVariants as printed
 use Rattle.playing.specs.declared.answering.Done.{Done}
 use Rattle.playing.specs.Desks.{kept, stretch, span, label_of, state_of, LabelFits, InOrder}
+use Rattle.playing.specs.Printed.{printed_text, PrintedFits}
 use Rattle.playing.specs.Plays.{Plays, done, count_of, label_after}
 use Rattle.playing.specs.Turns.{Turns}
 use Rattle.playing.proofs.StateLaws.{state_agrees}
@@ -105,6 +107,25 @@ module _ (numbers values : List ℕ) (used : ℕ) (h : used ≤ length numbers) 
       ap (λ (l : List ℕ). take (used + count - used) l) (drop_at (take used numbers) (overwritten values (drop used numbers)) used used_long)
       ∙ take_at values (drop (length values) (drop used numbers)) (used + count - used) (sym n)
 
+-- whether the script goes on behind what was read
+abbrev pub goes_on_after : Result (Option Reading) Misread → Bool
+goes_on_after (Ok (Some r)) = true
+goes_on_after (Ok None) = false
+goes_on_after (Err m) = false
+
+-- what it prints where it stops
+abbrev pub stop_text : List ℕ → Result (Option Reading) Misread → List ℕ
+stop_text text (Ok (Some r)) = []
+stop_text text (Ok None) = []
+stop_text text (Err m) = fault_line text m.fault
+
+-- and that is all that it then prints
+stop_step : (text : List ℕ) (cut : Bool) (next : State → ℕ → List ℕ) (state : State) (values : List ℕ) (r : Result (Option Reading) Misread)
+    → goes_on_after r ≡ false → play_step text cut next state values r ≡ stop_text text r
+stop_step text cut next state values (Ok (Some r)) g = absurd (let z : ◌≡◌ {A = ℕ} 0 1 = cc in omega arith)
+stop_step text cut next state values (Ok None) g = refl
+stop_step text cut next state values (Err m) g = refl
+
 -- a turn, by what is read and what is done with it
 module _ (text : List ℕ) (cut : Bool) (at : ℕ) (label : Option Span) (d : Desk) (o : InOrder d) (numbers rows words : List ℕ) (full : length numbers ≡ kept + most_numbers) where
   abbrev before : State
@@ -182,3 +203,20 @@ module _ (text : List ℕ) (cut : Bool) (at : ℕ) (label : Option Span) (d : De
       → Turns text cut at label before (record { done = done label d (printed.Bare place); next = None }) numbers₂ rows₂ words₂ out₂
   turn_fault {place = place} {out₂ = out₂} er shown fits fit =
       record { plays = λ n. by_reading n er ∙ sym shown ∙ sym (append-nil (take place out₂)); order = o; labelled = fit; fits = fits }
+
+  -- the script stops
+  pub turn_off : {r : Result (Option Reading) Misread} {p : Printed} {numbers₂ rows₂ words₂ out₂ : List ℕ} → r ≡ found.reading → goes_on_after r ≡ false
+      → ((l : List ℕ) → printed_text l out₂ p ≡ stop_text text r) → PrintedFits p (length out₂) → LabelFits label (length text)
+      → Turns text cut at label before (record { done = done label d p; next = None }) numbers₂ rows₂ words₂ out₂
+  turn_off {r} {p} {out₂ = out₂} er g shown fits fit =
+      record {
+        plays =
+            λ n.
+            by_reading n er
+            ∙ stop_step text cut (played text cut n) before found.values r g
+            ∙ sym (shown (label_of text label))
+            ∙ sym (append-nil (printed_text (label_of text label) out₂ p));
+        order = o;
+        labelled = fit;
+        fits = fits;
+      }

@@ -14,7 +14,7 @@ use script::spans::{Fault, Span};
 use script::statements::{Listed, Statement};
 
 // What a question left, under the label that stands. It is put together anew: handed on as it came, each statement's desk would be kept in
-// memory and copied word by word, which takes as long again as the statement.
+// memory and copied word by word, which takes up to as long again as the statement.
 fn under(label: Option<Span>, given: Done) -> Done
     ensures label { result.label ≡ label }
     ensures desk { result.desk ≡ given.desk }
@@ -68,7 +68,7 @@ fn do_list(
     }
 }
 
-// A statement. The numbers of its list are the next free ones.
+// Does a statement. The numbers of its list are the next free ones.
 fn do_one(
     statement: Statement,
     label: Option<Span>,

@@ -29,7 +29,8 @@ pub struct Ends {
     pub rules: usize,
 }
 
-// Copies numbers into a table behind the first `at` of it, and returns where they end.
+// Copies numbers into a table behind the first `at` of it, and returns where they end. One by one, as `plans` does: `copy_from_slice` would
+// have the library for C need `memmove`.
 fn append(table: &mut [u16], at: usize, from: &[u16]) -> usize
     requires { at + length from.now ≤ length table.old }
     ensures { Appended table.old at from.now table.new result }

@@ -9,7 +9,7 @@ use lib.ListN.{length, take}
 use borrow.Author.Tests.{ltb-false}
 use Rattle.foundation.specs.TestLaws.{or_second}
 use Rattle.model.specs.Tables.{Transformation, Contract}
-use Rattle.model.specs.Answers.{fine, Answer, admitted, refusal, refuse_if, ◌then◌, given}
+use Rattle.model.specs.Answers.{Verdict, fine, refused, Answer, admitted, refusal, refuse_if, ◌then◌, given}
 use Rattle.model.specs.Documents.{document_tree, numbers_taken, leading_tree, leading_verdict}
 use Rattle.model.specs.Rows.{row_count}
 use Rattle.model.specs.Running.{Ran, rows_wrong, run, closing, running_verdict, running}
@@ -35,6 +35,12 @@ read_document S numbers known high =
       symbol = λ place h. omega (arith, known.below place h);
       readable = known.readable;
     }
+
+-- a verdict that is not fine comes first
+pub refused_first : (one next : Verdict) → (one ≡ fine → ⊥) → one ≡ (one then next)
+unfolding ◌then◌
+refused_first fine next other = absurd (other refl)
+refused_first (refused number place) next other = refl
 
 -- what is said before the work: the buffer is refused, the document is, or neither
 module _ (T : Transformation) (numbers buffer : List ℕ) where
