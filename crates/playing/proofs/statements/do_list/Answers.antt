@@ -17,9 +17,17 @@ returns-in-Rows-clause-by_index c =
 pub returns-in-Judge-clause-by_index : goal.returns-in-Judge-clause-by_index
 returns-in-Judge-clause-by_index c =
     let a = c.args in
-    λ text. rw (c.under.ensures.desk, c.under.ensures.printed) (plays_as text c.under.ensures.label (step_judge (state_of (label_of text a.label) a.desk a.numbers.now a.rows.now a.words.now) text a.count (stretch a.numbers.now (span a.desk.used (a.desk.used + a.count))) c.in-Judge.is) (c.answer-given.ensures.by_index (label_of text a.label)))
+    let listed = stretch a.numbers.now (span a.desk.used (a.desk.used + a.count)) in
+    λ text.
+    let state = state_of (label_of text a.label) a.desk a.numbers.now a.rows.now a.words.now in
+    let step = step_judge state text a.count listed c.in-Judge.is in
+    rw (c.under.ensures.desk, c.under.ensures.printed) (plays_as text c.under.ensures.label step (c.answer-given.ensures.by_index (label_of text a.label)))
 
 pub returns-in-Run-clause-by_index : goal.returns-in-Run-clause-by_index
 returns-in-Run-clause-by_index c =
     let a = c.args in
-    λ text. rw (c.under-in-Run.ensures.desk, c.under-in-Run.ensures.printed) (plays_as text c.under-in-Run.ensures.label (step_run (state_of (label_of text a.label) a.desk a.numbers.now a.rows.now a.words.now) text a.count (stretch a.numbers.now (span a.desk.used (a.desk.used + a.count))) c.in-Run.is c.from.ensures) (c.answer-given-in-Run.ensures.by_index (label_of text a.label)))
+    let listed = stretch a.numbers.now (span a.desk.used (a.desk.used + a.count)) in
+    λ text.
+    let state = state_of (label_of text a.label) a.desk a.numbers.now a.rows.now a.words.now in
+    let step = step_run state text a.count listed c.in-Run.is c.from.ensures in
+    rw (c.under-in-Run.ensures.desk, c.under-in-Run.ensures.printed) (plays_as text c.under-in-Run.ensures.label step (c.answer-given-in-Run.ensures.by_index (label_of text a.label)))

@@ -24,17 +24,30 @@ returns-in-List-clause-by_index c =
 pub returns-in-Admit-clause-by_index : goal.returns-in-Admit-clause-by_index
 returns-in-Admit-clause-by_index c =
     let a = c.args in
-    λ text. rw (c.under.ensures.desk, c.under.ensures.printed) (plays_as text c.under.ensures.label (step_admit (state_of (label_of text a.label) a.desk a.numbers.now a.rows.now a.words.now) text (stretch a.numbers.now (span a.desk.used (a.desk.used + count_of a.statement))) (stretch a.numbers.now (span a.desk.used a.desk.used)) c.in-Admit.is) (c.answer-given.ensures.by_index (label_of text a.label)))
+    let listed = stretch a.numbers.now (span a.desk.used (a.desk.used + count_of a.statement)) in
+    let none = stretch a.numbers.now (span a.desk.used a.desk.used) in
+    λ text.
+    let state = state_of (label_of text a.label) a.desk a.numbers.now a.rows.now a.words.now in
+    let step = step_admit state text listed none c.in-Admit.is in
+    rw (c.under.ensures.desk, c.under.ensures.printed) (plays_as text c.under.ensures.label step (c.answer-given.ensures.by_index (label_of text a.label)))
 
 pub returns-in-Check-clause-by_index : goal.returns-in-Check-clause-by_index
 returns-in-Check-clause-by_index c =
     let a = c.args in
-    λ text. rw (c.under-in-Check.ensures.desk, c.under-in-Check.ensures.printed) (plays_as text c.under-in-Check.ensures.label (step_check (state_of (label_of text a.label) a.desk a.numbers.now a.rows.now a.words.now) text (stretch a.numbers.now (span a.desk.used (a.desk.used + count_of a.statement))) (stretch a.numbers.now (span a.desk.used a.desk.used)) c.in-Check.is c.from-in-Check.ensures) (c.answer-given-in-Check.ensures.by_index (label_of text a.label)))
+    let listed = stretch a.numbers.now (span a.desk.used (a.desk.used + count_of a.statement)) in
+    let none = stretch a.numbers.now (span a.desk.used a.desk.used) in
+    λ text.
+    let state = state_of (label_of text a.label) a.desk a.numbers.now a.rows.now a.words.now in
+    let step = step_check state text listed none c.in-Check.is c.from-in-Check.ensures in
+    rw (c.under-in-Check.ensures.desk, c.under-in-Check.ensures.printed) (plays_as text c.under-in-Check.ensures.label step (c.answer-given-in-Check.ensures.by_index (label_of text a.label)))
 
 pub returns-in-Write-clause-by_index : goal.returns-in-Write-clause-by_index
 returns-in-Write-clause-by_index c =
     let a = c.args in
-    λ text. plays_write (label_of text a.label) a.numbers.now a.rows.now a.words.now c.write-printed.new.out text a.desk c.requires.0 (stretch a.numbers.now (span a.desk.used (a.desk.used + count_of a.statement))) (take c.from-room.result a.tree.now) c.in-Write.is c.from-in-Write.ensures (length-take-le _ _ (omega arith)) c.from-room.ensures c.write-printed.ensures.result_after c.write-printed.ensures.printed_fits
+    let listed = stretch a.numbers.now (span a.desk.used (a.desk.used + count_of a.statement)) in
+    let tree = take c.from-room.result a.tree.now in
+    let written = c.write-printed.ensures in
+    λ text. plays_write (label_of text a.label) a.numbers.now a.rows.now a.words.now c.write-printed.new.out text a.desk c.requires.0 listed tree c.in-Write.is c.from-in-Write.ensures (length-take-le _ _ (omega arith)) c.from-room.ensures written.result_after written.printed_fits
 
 pub returns-in-Show-clause-by_index : goal.returns-in-Show-clause-by_index
 returns-in-Show-clause-by_index c =
