@@ -1,4 +1,4 @@
--- Each refusal, and acceptance, as the definition gives them.
+-- Each refusal, and acceptance, as the definition gives them; what a prepared contract and a list of a good length have.
 use mathlib.Core.Path.{◌≡◌, ap, sym, ◌∙◌, ap₂}
 use mathlib.Core.Bool.{Bool, true, false, not, ◌||◌}
 use mathlib.Core.List.{List, [], ◌∷◌, ◌++◌}

@@ -11,26 +11,7 @@ use native.Mathlib.Omega.{arith}
 use lib.ListN.{length, get_or, take, drop, set, length-set, length-drop, length-append}
 use lib.Seq.{take-suc, set_out, sets, length-sets, length-take-le, take_all}
 use Rattle.printing.specs.Appending.{place_after}
-
-sets_out : (l vs : List ℕ) (at : ℕ) → length l ≤ at → sets l at vs ≡ l
-sets_out l [] at h = refl
-sets_out l (v ∷ vs) at h =
-    sets_out (set l at v) vs (suc at) (rw (length-set l at v) (omega arith))
-    ∙ set_out l at v h
-
--- a text stored behind the end is none
-sets_clipped : (l vs : List ℕ) (p : ℕ) → sets l (min p (length l)) vs ≡ sets l p vs
-sets_clipped l vs p = go (ltb p (length l)) refl
-  where
-    go : (t : Bool) → ltb p (length l) ≡ t → sets l (min p (length l)) vs ≡ sets l p vs
-    go true e = ap (λ (n : ℕ). sets l n vs) (let h : p < length l = ltb-true _ _ e in omega arith)
-    go false e =
-        let h : length l ≤ p = ltb-false _ _ e in
-        sets_out l vs (min p (length l)) (omega arith) ∙ sym (sets_out l vs p h)
-
-sets_append : (l xs ys : List ℕ) (at : ℕ) → sets l at (xs ++ ys) ≡ sets (sets l at xs) (at + length xs) ys
-sets_append l [] ys at = ap (λ (n : ℕ). sets l n ys) (sym (add-zero at))
-sets_append l (x ∷ xs) ys at = sets_append (set l at x) xs ys (suc at) ∙ ap (λ (n : ℕ). sets (sets (set l at x) (suc at) xs) n ys) (omega arith)
+use Rattle.printing.proofs.Texts.{sets_clipped, sets_append}
 
 -- what appending a text leaves: the place behind it, and the text stored
 abbrev pub Appended : (entry : List ℕ) (at : ℕ) (text : List ℕ) (place : ℕ) (out : List ℕ) → Type 0

@@ -8,14 +8,14 @@ use lib.Seq.{take-suc, take_all, set_out, length-sets}
 use Rattle.printing.specs.Appending.{Appended, Appends}
 use Rattle.printing.specs.declared.pages.Page.{Page}
 
-sets_out : (l vs : List ℕ) (at : ℕ) → length l ≤ at → sets l at vs ≡ l
+pub sets_out : (l vs : List ℕ) (at : ℕ) → length l ≤ at → sets l at vs ≡ l
 sets_out l [] at h = refl
 sets_out l (v ∷ vs) at h =
     sets_out (set l at v) vs (suc at) (rw (length-set l at v) (omega arith))
     ∙ set_out l at v h
 
 -- a text stored behind the end is none
-sets_clipped : (l vs : List ℕ) (p : ℕ) → sets l (min p (length l)) vs ≡ sets l p vs
+pub sets_clipped : (l vs : List ℕ) (p : ℕ) → sets l (min p (length l)) vs ≡ sets l p vs
 sets_clipped l vs p = go (ltb p (length l)) refl
   where
     go : (t : Bool) → ltb p (length l) ≡ t → sets l (min p (length l)) vs ≡ sets l p vs
@@ -24,7 +24,7 @@ sets_clipped l vs p = go (ltb p (length l)) refl
         let h : length l ≤ p = ltb-false _ _ e in
         sets_out l vs (min p (length l)) (omega arith) ∙ sym (sets_out l vs p h)
 
-sets_append : (l xs ys : List ℕ) (at : ℕ) → sets l at (xs ++ ys) ≡ sets (sets l at xs) (at + length xs) ys
+pub sets_append : (l xs ys : List ℕ) (at : ℕ) → sets l at (xs ++ ys) ≡ sets (sets l at xs) (at + length xs) ys
 sets_append l [] ys at = ap (λ (n : ℕ). sets l n ys) (sym (add-zero at))
 sets_append l (x ∷ xs) ys at = sets_append (set l at x) xs ys (suc at) ∙ ap (λ (n : ℕ). sets (sets (set l at x) (suc at) xs) n ys) (omega arith)
 

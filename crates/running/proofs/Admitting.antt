@@ -1,4 +1,5 @@
--- Admission, the tests of the buffer and of the document, and what is known of a contract and a document that pass.
+-- Admission, the tests of the buffer and of the document, which of two verdicts comes first, and what is known of a contract and a document
+-- that pass.
 use mathlib.Core.Path.{◌≡◌, refl, ap, sym}
 use mathlib.Core.Bool.{true, false, not}
 use mathlib.Core.List.{List}

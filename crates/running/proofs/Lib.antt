@@ -1,4 +1,4 @@
--- Lemmas that the proofs of running cite: steps of the work, what evaluating and calling come to, and rows in a buffer.
+-- Lemmas of running, most of which its proofs cite: steps of the work, what evaluating and calling come to, and rows in a buffer.
 pub mod Steps
 pub mod Buffers
 pub mod Evaluating
