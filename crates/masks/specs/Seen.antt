@@ -267,6 +267,9 @@ module _ (masks : List ℕ) (s : ℕ) (mask : List ℕ) (five : mask_words ≤ l
   pub pasted_stored : pasted masks s mask ≡ stored masks s mask
   pasted_stored = pasted_to mask_words (omega arith)
 
+  stored_is : stored masks s mask ≡ take (mask_words * s) masks ++ (take mask_words mask ++ drop (mask_words * s + mask_words) masks)
+  stored_is = sym pasted_stored ∙ pasted_is
+
   pasted_kept : (j : ℕ) → (j < mask_words * s) ⊎ (mask_words * s + mask_words ≤ j) → get_or (pasted masks s mask) j 0 ≡ get_or masks j 0
   pasted_kept j (inl l) = rw pasted_is (put_before masks _ (mask_words * s) mask_words whole inside j l)
   pasted_kept j (inr l) = rw pasted_is (put_behind masks _ (mask_words * s) mask_words whole inside j l)
